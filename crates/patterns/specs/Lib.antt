@@ -1,0 +1,4 @@
+pub mod Meets
+pub mod Numbers
+pub mod Prefixes
+pub mod Pairs

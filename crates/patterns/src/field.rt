@@ -1,0 +1,47 @@
+ghost use mathlib.Core.Path.{_≡_};
+ghost use mathlib.Core.Bool.{Bool, true};
+ghost use Prim.Native.Nat.{_<_, _^_};
+ghost use lib.Dec.{eqb};
+
+// A kind of number that a number pattern can fix: equality as a test, and the values that its type can hold.
+pub trait Field: Copy {
+    ghost same: { Self → Self → Bool };
+
+    ghost fits: { Self → Type 0 };
+
+    // A value for the witness of an open pattern.
+    ghost sample: { Self };
+
+    law reflexive: { (a : Self) → same a a ≡ true };
+
+    law alike: { (a b x : Self) → same a b ≡ true → same a x ≡ same b x };
+
+    law held: { fits sample };
+
+    fn equals(self, other: Self) -> bool
+        ensures { λ r. ⌜ r ≡ same self other ⌝ };
+}
+
+pub impl Field for u8 as U8Field {
+    ghost same = { eqb };
+
+    ghost fits = { λ n. n < 2 ^ 8 };
+
+    ghost sample = { 0 };
+
+    fn equals(self, other: u8) -> bool {
+        self == other
+    }
+}
+
+pub impl Field for u16 as U16Field {
+    ghost same = { eqb };
+
+    ghost fits = { λ n. n < 2 ^ 16 };
+
+    ghost sample = { 0 };
+
+    fn equals(self, other: u16) -> bool {
+        self == other
+    }
+}

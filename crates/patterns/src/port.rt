@@ -1,0 +1,43 @@
+ghost use mathlib.Core.Path.{_≡_};
+ghost use mathlib.Core.Bool.{true, false};
+ghost use Prim.Native.Nat.{_<_, _≤_};
+ghost use lib.Dec.{eqb, lit≤};
+ghost use Rattle.std.specs.declared.option.Option.the-variants.{Some, None};
+use crate::field::Field;
+
+// A port of a switch, 1 to 16.
+#[derive(Clone, Copy, PartialEq, Eq)]
+pub struct Port {
+    number: u8,
+    ghost ok: { (1 ≤ number) × (number ≤ 16) },
+}
+
+impl Port {
+    pub fn new(number: u8) -> Option<Port>
+        ensures { λ r. ⌜ elim r [ Some p ↦ p .number ≡ number | None ↦ ((1 ≤ number) × (number ≤ 16) → ⊥) ] ⌝ }
+    {
+        if number < 1 || number > 16 {
+            return None;
+        }
+        Some(Port { number })
+    }
+
+    pub fn number(self) -> u8
+        ensures { λ r. ⌜ r ≡ self .number ⌝ }
+    {
+        self.number
+    }
+}
+
+pub impl Field for Port as PortField {
+    ghost same = { λ a b. eqb (a .number) (b .number) };
+
+    // The type holds no other.
+    ghost fits = { λ p. (1 ≤ p .number) × (p .number ≤ 16) };
+
+    ghost sample = { record { number = 1; ok = (lit≤ tt, lit≤ tt) } };
+
+    fn equals(self, other: Port) -> bool {
+        self.number == other.number
+    }
+}

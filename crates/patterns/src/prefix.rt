@@ -1,0 +1,75 @@
+ghost use mathlib.Core.Path.{_≡_};
+ghost use Prim.Native.Nat.{_-_, _%_, _^_, _<_, _≤_};
+ghost use Rattle.std.specs.declared.option.Option.the-variants.{Some, None};
+ghost use Rattle.patterns.specs.Prefixes.{same-start, meet-by};
+use crate::pattern::Pattern;
+
+// A prefix pattern: the addresses that agree with `address` in the first `length` bits. The later bits are zero.
+#[derive(Clone, Copy, PartialEq, Eq)]
+pub struct Prefix {
+    address: u32,
+    length: u8,
+    ghost ok: { (length ≤ 32) × (address < 2 ^ 32) × (address % 2 ^ (32 - length) ≡ 0) },
+}
+
+// Whether the first `length` bits of `a` and `x` are the same.
+fn starts(length: u8, a: u32, x: u32) -> bool
+    requires { ⌜ length ≤ 32 ⌝ }
+    ensures { λ r. ⌜ r ≡ same-start length a x ⌝ }
+{
+    let gap = 32 - u32::from(length);
+    u64::from(a) >> gap == u64::from(x) >> gap
+}
+
+impl Prefix {
+    pub fn new(address: u32, length: u8) -> Option<Prefix>
+        ensures { λ r. ⌜ elim r [ Some p ↦ (p .address ≡ address) × (p .length ≡ length) | None ↦ ((length ≤ 32) × (address % 2 ^ (32 - length) ≡ 0) → ⊥) ] ⌝ }
+    {
+        if length > 32 || u64::from(address) % (1u64 << (32 - u32::from(length))) != 0 {
+            return None;
+        }
+        Some(Prefix { address, length })
+    }
+
+    pub fn address(self) -> u32
+        ensures { λ r. ⌜ r ≡ self .address ⌝ }
+    {
+        self.address
+    }
+
+    pub fn length(self) -> u8
+        ensures { λ r. ⌜ r ≡ self .length ⌝ }
+    {
+        self.length
+    }
+}
+
+pub impl Pattern for Prefix as PrefixPattern {
+    type Subject = u32;
+
+    ghost admitting = { λ p x. same-start (p .length) (p .address) x };
+
+    ghost meeting = { meet-by (λ p. p .length) (λ p. p .address) };
+
+    ghost fits = { λ x. x < 2 ^ 32 };
+
+    // The type holds no other.
+    ghost sound = { λ _. Unit {0} };
+
+    fn admits(&self, x: &u32) -> bool {
+        starts(self.length, self.address, *x)
+    }
+
+    fn meet(&self, other: &Prefix) -> Option<Prefix> {
+        let (short, long) = if self.length <= other.length {
+            (*self, *other)
+        } else {
+            (*other, *self)
+        };
+        if starts(short.length, short.address, long.address) {
+            Some(long)
+        } else {
+            None
+        }
+    }
+}

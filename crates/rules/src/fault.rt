@@ -1,0 +1,33 @@
+ghost use mathlib.Core.Path.{_≡_};
+ghost use Rattle.rules.specs.Faults.{rule-number};
+use patterns::number::Number;
+use patterns::number::NumberClone;
+use patterns::number::NumberEq;
+use patterns::number::NumberPartialEq;
+
+// Why a row makes no rule, with the numbers that are at fault.
+#[derive(Clone, Copy, PartialEq, Eq)]
+pub enum RuleFault {
+    Switch(u8),
+    InPort(u8),
+    Length(u8),
+    StrayBit(u32, u8),
+    PortWithoutTransport(u16, Number<u8>),
+    OutPort(u8),
+}
+
+impl RuleFault {
+    // The refusal's number in the table of refusals.
+    pub fn number(self) -> u8
+        ensures { λ r. ⌜ r ≡ rule-number self ⌝ }
+    {
+        match self {
+            RuleFault::Switch(_) => 21,
+            RuleFault::InPort(_) => 22,
+            RuleFault::Length(_) => 23,
+            RuleFault::StrayBit(_, _) => 24,
+            RuleFault::PortWithoutTransport(_, _) => 25,
+            RuleFault::OutPort(_) => 26,
+        }
+    }
+}
