@@ -1,10 +1,11 @@
 -- The limits of a rule: which rows make one, and which refusal the others get.
+use mathlib.Core.Path.{_≡_}
 use mathlib.Core.Bool.{Bool, true, false, cond, _&&_, _||_}
 use Prim.Native.Nat.{ℕ, _-_, _%_, _^_}
 use lib.Dec.{eqb, leb}
 use Rattle.std.specs.declared.option.Option.{Option}
 use Rattle.std.specs.declared.option.Option.the-variants.{Some, None}
-use Rattle.std.specs.Options.{orOther}
+use Rattle.std.specs.Options.{isSome, orOther}
 use Rattle.patterns.specs.declared.number.Number.{Number}
 use Rattle.patterns.specs.declared.number.Number.the-variants.{Open, Fixed}
 use Rattle.rules.specs.declared.row.Action.{Action}
@@ -59,3 +60,7 @@ row-fault r =
     orOther (bits-fault (r .pattern .destination)) (
     orOther (transport-fault (r .pattern .protocol) (r .pattern .«destination_port»))
     (out-port-fault (r .action))))))))
+
+-- The row makes a rule.
+abbrev pub Makes : Row → Type 0
+Makes r = isSome (row-fault r) ≡ false

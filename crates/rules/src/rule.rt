@@ -1,7 +1,4 @@
-ghost use mathlib.Core.Path.{_≡_};
-ghost use mathlib.Core.Bool.{false};
-ghost use Rattle.std.specs.Options.{isSome};
-ghost use Rattle.rules.specs.Limits.{row-fault};
+ghost use Rattle.rules.specs.Limits.{Makes};
 use crate::row::Row;
 use crate::row::RowEq;
 use crate::row::RowPartialEq;
@@ -13,5 +10,5 @@ pub mod matching;
 #[derive(Clone, Copy, PartialEq, Eq)]
 pub struct Rule {
     row: Row,
-    ghost ok: { isSome (row-fault row) ≡ false },
+    ghost ok: { Makes row },
 }
