@@ -1,0 +1,29 @@
+use mathlib.Core.Path.{_≡_, sym, ap, _∙_}
+use Prim.Native.Nat.{_*_, _<_}
+use native.Mathlib.Omega.{arith}
+use Rattle.std.specs.declared.option.Option.the-variants.{Some}
+use Rattle.std.specs.shelf.Maps.{nth}
+use Rattle.topologies.specs.declared.spot.PortKind.the-variants.{Edge}
+use Rattle.topologies.proofs.Counts.{from, found, skipped, passed}
+use Rattle.topologies.proofs.topology.Topology.edge_port.Needs as need
+use Rattle.topologies.proofs.topology.Topology.edge_port.Needs.{then-is-of·else-left-eq0, else-is-of}
+
+pub returns-then-left-eq0 : need.returns-then-left-eq0
+returns-then-left-eq0 c =
+    let t = c .args .self .now in
+    let i = c .loop-i .i in
+    let rest = from Edge (t .ports) (t .switches * 16) i in
+    ap Some (c .spot-at .ensures)
+    ∙ sym (found Edge (t .ports) (t .switches * 16) i (omega arith) (sym (c .is-of .ensures) ∙ c .if-is-of .taken))
+    ∙ ap (nth rest) (sym (c .if-left-eq0 .taken)) ∙ c .loop-i .inv
+
+pub loop-i-again : need.loop-i-again
+loop-i-again c =
+    let t = c .args .self .now in
+    let i = c .loop-i .i in
+    let m = t .switches * 16 in
+    let here : i < m = omega arith in
+    elim (c .if-is-of .came) [
+      then-is-of·else-left-eq0 w ↦ ap (nth _) (w .left-is) ∙ sym (passed Edge (t .ports) m i (c .loop-i .left) here (omega (arith, w .if-left-eq0 .left)) (sym (c .is-of .ensures) ∙ w .if-is-of .taken)) ∙ c .loop-i .inv
+      | else-is-of w ↦ ap (nth _) (w .left-is) ∙ sym (skipped Edge (t .ports) m i (c .loop-i .left) here (sym (c .is-of .ensures) ∙ w .if-is-of .left)) ∙ c .loop-i .inv
+    ]

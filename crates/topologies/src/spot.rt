@@ -1,0 +1,21 @@
+// A port of a switch, as plain numbers, which need not be one of a topology's.
+#[derive(Clone, Copy, PartialEq, Eq)]
+pub struct Spot {
+    pub switch: u8,
+    pub port: u8,
+}
+
+// What a port is used for: nothing, a host, or a link with the port named.
+#[derive(Clone, Copy, PartialEq, Eq)]
+pub enum PortUse {
+    Unused,
+    Edge,
+    Linked(Spot),
+}
+
+// The uses of a port that are counted.
+#[derive(Clone, Copy, PartialEq, Eq)]
+pub enum PortKind {
+    Edge,
+    Linked,
+}

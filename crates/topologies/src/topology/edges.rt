@@ -1,0 +1,94 @@
+ghost use mathlib.Core.Path.{_≡_};
+ghost use mathlib.Core.Bool.{true};
+ghost use Prim.Native.Nat.{_<_, _≤_, _*_, _/_};
+ghost use lib.ListN.{length};
+ghost use Rattle.std.specs.Results.{errPart};
+ghost use Rattle.std.specs.Vec.{made};
+ghost use Rattle.std.specs.shelf.Maps.{nth};
+ghost use Rattle.topologies.specs.Ports.{within, use-of, spot-at, is-of, ports-of, edge-ports, link-count, links-back};
+ghost use Rattle.topologies.specs.Building.{port-fault};
+use crate::fault::TopologyFault;
+use crate::spot::PortKind;
+use crate::spot::PortUse;
+use crate::spot::Spot;
+use crate::topology::Topology;
+use crate::topology::building::index_of;
+
+// The port whose use lies at a place.
+fn spot_at(i: usize) -> Spot
+    requires { ⌜ i < 256 ⌝ }
+    ensures { λ r. ⌜ r ≡ spot-at i ⌝ }
+{
+    Spot { switch: (i / 16) as u8, port: (i % 16 + 1) as u8 }
+}
+
+impl PortUse {
+    pub fn is_of(self, kind: PortKind) -> bool
+        ensures { λ r. ⌜ r ≡ is-of kind self ⌝ }
+    {
+        match (kind, self) {
+            (PortKind::Edge, PortUse::Edge) => true,
+            (PortKind::Linked, PortUse::Linked(_)) => true,
+            _ => false,
+        }
+    }
+}
+
+impl Topology {
+    pub fn switches(&self) -> u8
+        ensures { λ r. ⌜ r ≡ now (self .entry) .switches ⌝ }
+    {
+        self.switches
+    }
+
+    // What a port is used for. A link's other end is a port of the topology, another one, and linked with this one.
+    pub fn port_use(&self, at: Spot) -> Result<PortUse, TopologyFault>
+        ensures refusal { λ r. ⌜ errPart r ≡ port-fault (now (self .entry) .switches) at ⌝ }
+        ensures value { λ r. ⌜ made r (λ u. u ≡ use-of (now (self .entry) .ports) at) ⌝ }
+        ensures back { λ r. ⌜ made r (λ u. links-back (now (self .entry) .switches) (now (self .entry) .ports) at u ≡ true) ⌝ }
+    {
+        self.check_port(at)?;
+        Ok(self.ports[index_of(at, self.switches)])
+    }
+
+    // How many ports are used for this.
+    fn count(&self, kind: PortKind) -> usize
+        ensures { λ r. ⌜ r ≡ length (ports-of kind (now (self .entry) .switches) (now (self .entry) .ports)) ⌝ }
+    {
+        let mut count = 0;
+        for i in 0..usize::from(self.switches) * 16 {
+            if self.ports[i].is_of(kind) {
+                count += 1;
+            }
+        }
+        count
+    }
+
+    pub fn edge_count(&self) -> usize
+        ensures { λ r. ⌜ r ≡ length (edge-ports (now (self .entry) .switches) (now (self .entry) .ports)) ⌝ }
+    {
+        self.count(PortKind::Edge)
+    }
+
+    pub fn link_count(&self) -> usize
+        ensures { λ r. ⌜ r ≡ link-count (now (self .entry) .switches) (now (self .entry) .ports) ⌝ }
+    {
+        self.count(PortKind::Linked) / 2
+    }
+
+    // The edge port at a place of their order by switch and port, counted from 0.
+    pub fn edge_port(&self, place: usize) -> Option<Spot>
+        ensures { λ r. ⌜ r ≡ nth (edge-ports (now (self .entry) .switches) (now (self .entry) .ports)) place ⌝ }
+    {
+        let mut left = place;
+        for i in 0..usize::from(self.switches) * 16 {
+            if self.ports[i].is_of(PortKind::Edge) {
+                if left == 0 {
+                    return Some(spot_at(i));
+                }
+                left -= 1;
+            }
+        }
+        None
+    }
+}
