@@ -15,6 +15,7 @@ use Rattle.std.specs.declared.option.Option.{Option}
 use Rattle.std.specs.declared.option.Option.the-variants.{Some}
 use Rattle.std.specs.declared.result.Result.{Result}
 use Rattle.std.specs.declared.result.Result.the-variants.{Ok, Err}
+use Rattle.rules.proofs.Lists.{nth-within}
 use Rattle.rules.specs.declared.fault.RuleFault.{RuleFault}
 use Rattle.rules.specs.declared.row.Row.{Row}
 use Rattle.rules.specs.Limits.{row-fault}
@@ -52,16 +53,9 @@ module _ (rows : List Row) where
         | inr h ↦ absurd (false≢true (ap (λ o. isSome (flattened (mapped row-fault o))) (sym (nth-past rows k h)) ∙ ap isSome e))
       ]
 
-  stands-within : (k : ℕ) (r : Row) → Stands rows k r → k < length rows
-  stands-within k r e =
-      elim (cases-lt k (length rows)) [
-        inl h ↦ h
-        | inr h ↦ absurd (false≢true (ap isSome (sym (nth-past rows k h) ∙ e)))
-      ]
-
   -- No refusal of a list that is a configuration.
   pub never-refused : (e : ConfigurationFault) → Refused rows e → Sound rows → ⊥
   never-refused (fault.TooMany n) (many, is) (few, made, clear) = omega arith
   never-refused (fault.Row place f) (short, before, here) (few, made, clear) = true≢false (ap isSome (sym here) ∙ made place (some-fault place here))
   never-refused (fault.Clash later earlier) (short, all, before, of, lt, (a, b, s, t, k)) (few, made, clear) =
-      clear earlier later (lt, stands-within later b t, (a, b, s, t, k))
+      clear earlier later (lt, nth-within rows later b t, (a, b, s, t, k))

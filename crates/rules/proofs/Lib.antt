@@ -1,1 +1,2 @@
 pub mod Packets
+pub mod Lists

@@ -7,6 +7,7 @@ use native.Mathlib.Omega.{arith}
 use native.Mathlib.Numerals.{sub-one}
 use lib.ListN.{length, getD, length-append}
 use Rattle.std.proofs.shelf.Counted.{kept-by-map-counting-more}
+use Rattle.std.proofs.shelf.Tests.{lt-ltb, le-leb, and-from}
 use Rattle.std.specs.Iters.{counting}
 use Rattle.std.specs.shelf.Lists.{kept-by}
 use Rattle.std.specs.shelf.Maps.{nth}
@@ -16,10 +17,13 @@ use Rattle.topologies.specs.declared.spot.PortKind.{PortKind}
 use Rattle.topologies.specs.declared.spot.PortUse.{PortUse}
 use Rattle.topologies.specs.declared.spot.PortUse.the-variants.{Unused}
 use Rattle.topologies.specs.declared.spot.Spot.{Spot}
-use Rattle.topologies.specs.Ports.{is-of, use-of, index, spot-at}
+use Rattle.topologies.specs.Ports.{within, is-of, use-of, index, spot-at}
 
 index-spot : (i : ℕ) → index (spot-at i) ≡ i
 index-spot i = omega arith
+
+pub spot-within : (n i : ℕ) → i < n * 16 → within n (spot-at i) ≡ true
+spot-within n i h = and-from _ _ (lt-ltb (i / 16) n (omega arith)) (and-from _ _ (le-leb 1 (i % 16 + 1) (omega arith)) (le-leb (i % 16 + 1) 16 (omega arith)))
 
 module _ (kind : PortKind) (ports : List PortUse) where
   abbrev pub kept : List Spot → List Spot

@@ -94,9 +94,17 @@ impl<'a> Configuration<'a> {
 
     // How many rules it has.
     pub fn len(&self) -> usize
-        ensures { λ r. ⌜ r ≡ length (now (self .entry) .rows .now) ⌝ }
+        ensures value { λ r. ⌜ r ≡ length (now (self .entry) .rows .now) ⌝ }
+        ensures bound { λ r. ⌜ r ≤ 256 ⌝ }
     {
         self.rows.len()
+    }
+
+    // The rows of its rules.
+    pub fn rows(&self) -> &'a [Row]
+        ensures { λ r. ⌜ now r ≡ now (self .entry) .rows .now ⌝ }
+    {
+        self.rows
     }
 
     // The rule at a place, counted from 0.

@@ -3,6 +3,7 @@ ghost use mathlib.Core.Bool.{true};
 ghost use Prim.Native.Nat.{_<_, _≤_, _*_, _/_};
 ghost use lib.ListN.{length};
 ghost use Rattle.std.specs.Results.{errPart};
+ghost use Rattle.std.specs.Slices.{found};
 ghost use Rattle.std.specs.Vec.{made};
 ghost use Rattle.std.specs.shelf.Maps.{nth};
 ghost use Rattle.topologies.specs.Ports.{within, use-of, spot-at, is-of, ports-of, edge-ports, link-count, links-back};
@@ -53,7 +54,8 @@ impl Topology {
 
     // How many ports are used for this.
     fn count(&self, kind: PortKind) -> usize
-        ensures { λ r. ⌜ r ≡ length (ports-of kind (now (self .entry) .switches) (now (self .entry) .ports)) ⌝ }
+        ensures value { λ r. ⌜ r ≡ length (ports-of kind (now (self .entry) .switches) (now (self .entry) .ports)) ⌝ }
+        ensures bound { λ r. ⌜ r ≤ 256 ⌝ }
     {
         let mut count = 0;
         for i in 0..usize::from(self.switches) * 16 {
@@ -65,7 +67,8 @@ impl Topology {
     }
 
     pub fn edge_count(&self) -> usize
-        ensures { λ r. ⌜ r ≡ length (edge-ports (now (self .entry) .switches) (now (self .entry) .ports)) ⌝ }
+        ensures value { λ r. ⌜ r ≡ length (edge-ports (now (self .entry) .switches) (now (self .entry) .ports)) ⌝ }
+        ensures bound { λ r. ⌜ r ≤ 256 ⌝ }
     {
         self.count(PortKind::Edge)
     }
@@ -78,7 +81,8 @@ impl Topology {
 
     // The edge port at a place of their order by switch and port, counted from 0.
     pub fn edge_port(&self, place: usize) -> Option<Spot>
-        ensures { λ r. ⌜ r ≡ nth (edge-ports (now (self .entry) .switches) (now (self .entry) .ports)) place ⌝ }
+        ensures value { λ r. ⌜ r ≡ nth (edge-ports (now (self .entry) .switches) (now (self .entry) .ports)) place ⌝ }
+        ensures inside { λ r. ⌜ found r (λ s. within (now (self .entry) .switches) s ≡ true) ⌝ }
     {
         let mut left = place;
         for i in 0..usize::from(self.switches) * 16 {

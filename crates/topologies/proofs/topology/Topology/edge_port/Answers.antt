@@ -4,7 +4,7 @@ use native.Mathlib.Omega.{arith}
 use Rattle.std.specs.declared.option.Option.the-variants.{Some}
 use Rattle.std.specs.shelf.Maps.{nth}
 use Rattle.topologies.specs.declared.spot.PortKind.the-variants.{Edge}
-use Rattle.topologies.proofs.Counts.{from, found, skipped, passed}
+use Rattle.topologies.proofs.Counts.{spot-within, from, found, skipped, passed}
 use Rattle.topologies.proofs.topology.Topology.edge_port.Needs as need
 use Rattle.topologies.proofs.topology.Topology.edge_port.Needs.{then-is-of·else-left-eq0, else-is-of}
 
@@ -13,9 +13,12 @@ returns-then-left-eq0 c =
     let t = c .args .self .now in
     let i = c .loop-i .i in
     let rest = from Edge (t .ports) (t .switches * 16) i in
-    ap Some (c .spot-at .ensures)
-    ∙ sym (found Edge (t .ports) (t .switches * 16) i (omega arith) (sym (c .is-of .ensures) ∙ c .if-is-of .taken))
-    ∙ ap (nth rest) (sym (c .if-left-eq0 .taken)) ∙ c .loop-i .inv
+    record {
+      value = ap Some (c .spot-at .ensures)
+        ∙ sym (found Edge (t .ports) (t .switches * 16) i (omega arith) (sym (c .is-of .ensures) ∙ c .if-is-of .taken))
+        ∙ ap (nth rest) (sym (c .if-left-eq0 .taken)) ∙ c .loop-i .inv;
+      inside = rw (c .spot-at .ensures) (spot-within (t .switches) i (omega arith))
+    }
 
 pub loop-i-again : need.loop-i-again
 loop-i-again c =

@@ -1,0 +1,62 @@
+ghost use mathlib.Core.Path.{_≡_};
+ghost use Rattle.messages.specs.Sent.{sent, switch-of, wire-length};
+use crate::add::Add;
+use crate::add::AddEq;
+use crate::add::AddPartialEq;
+use patterns::port::Port;
+use patterns::port::PortEq;
+use patterns::port::PortPartialEq;
+use rules::row::Action;
+use rules::switch::Switch;
+use rules::switch::SwitchEq;
+use rules::switch::SwitchPartialEq;
+use rules::tag::Tag;
+use rules::tag::TagEq;
+use rules::tag::TagPartialEq;
+
+// A message to one switch; an add goes to its rule's.
+#[derive(Clone, Copy, PartialEq, Eq)]
+pub enum Message {
+    Add(Add),
+    // An edge port, and the tag with which it stamps packets from then on.
+    Stamp(Switch, Port, Tag),
+    // All rules of the switch under the tag.
+    Remove(Switch, Tag),
+    // Answered once all earlier messages are carried out.
+    Barrier(Switch),
+}
+
+impl Message {
+    // The switch that it goes to.
+    pub fn switch(self) -> u8
+        ensures { λ r. ⌜ r ≡ switch-of (sent self) ⌝ }
+    {
+        match self {
+            Message::Add(add) => add.rule().row().switch,
+            Message::Stamp(switch, _, _) => switch.number(),
+            Message::Remove(switch, _) => switch.number(),
+            Message::Barrier(switch) => switch.number(),
+        }
+    }
+
+    // Its length on the wire.
+    pub fn wire_length(self) -> u16
+        ensures { λ r. ⌜ r ≡ wire-length (sent self) ⌝ }
+    {
+        match self {
+            Message::Add(add) => match add.rule().row().action {
+                Action::Drop => 72,
+                Action::Out(_) => {
+                    if add.strip() {
+                        88
+                    } else {
+                        80
+                    }
+                }
+            },
+            Message::Stamp(_, _, _) => 80,
+            Message::Remove(_, _) => 72,
+            Message::Barrier(_) => 8,
+        }
+    }
+}

@@ -1,0 +1,15 @@
+use mathlib.Core.Path.{subst}
+use Rattle.std.proofs.shelf.Results.{err-from-errBy}
+use Rattle.plans.specs.Switches.{Off-switches}
+use Rattle.plans.proofs.Switches.{never-off}
+use Rattle.plans.proofs.plan.Plan.new.Needs as need
+
+pub returns-in-Break-check-switches : need.returns-in-Break-check-switches
+returns-in-Break-check-switches c =
+    let p = err-from-errBy (c .from-residual .result) (c .from-residual .ensures .1) in
+    let f = c .in-Break-check-switches .field-0 .0 in
+    let rows = c .args .configuration .rows .now in
+    let why =
+      subst (λ n. Off-switches n rows f) (c .switches .ensures)
+      (subst (λ rows. Off-switches (c .switches .result) rows f) (c .rows .ensures) (c .in-Break-check-switches .ensures tt)) in
+    rw (p .1, p .2) record { value = why; granted = λ on. absurd (never-off _ rows f why on) }

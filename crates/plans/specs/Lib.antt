@@ -1,0 +1,4 @@
+pub mod Versions
+pub mod Switches
+pub mod Series
+pub mod Planned
