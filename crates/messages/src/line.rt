@@ -1,8 +1,11 @@
 ghost use mathlib.Core.Path.{_≡_};
 ghost use Rattle.messages.specs.Sent.{sent};
 ghost use Rattle.messages.specs.Lines.{line-of};
+ghost use Rattle.std.specs.declared.option.Option.the-variants.{Some};
+ghost use Rattle.messages.specs.Texts.{kind-text, line-text};
 use crate::message::Message;
 use rules::row::Action;
+use std::fmt;
 
 #[derive(Clone, Copy, PartialEq, Eq)]
 pub enum Kind {
@@ -40,5 +43,28 @@ impl Line {
             Message::Barrier(_) => (Kind::Barrier, 0, 0),
         };
         Line { xid, switch: message.switch(), kind, tag, port, bytes: message.wire_length() }
+    }
+}
+
+impl Kind {
+    fn name(self) -> &'static str
+        ensures { λ r. ⌜ now r ≡ kind-text self ⌝ }
+    {
+        match self {
+            Kind::Add => "add",
+            Kind::Stamp => "stamp",
+            Kind::Remove => "remove",
+            Kind::Barrier => "barrier",
+        }
+    }
+}
+
+pub impl fmt::Display for Line as LineDisplay {
+    ghost shown = { λ l. Some (line-text l) };
+
+    fn fmt<W: fmt::Write>(&self, f: &mut fmt::Formatter<W>) -> fmt::Result {
+        let Line { xid, switch, kind, tag, port, bytes } = *self;
+        let name = kind.name();
+        write!(f, "{xid} {switch} {name} {tag} {port} {bytes}")
     }
 }

@@ -8,8 +8,10 @@ use topologies::topology::Topology;
 
 pub mod making;
 pub mod posting;
+pub mod sum;
 
 // An update of a site from the version in force to a new configuration under the other one.
+#[derive(Drop)]
 pub struct Plan<'a> {
     topology: &'a Topology,
     configuration: Configuration<'a>,

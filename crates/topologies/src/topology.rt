@@ -8,6 +8,7 @@ pub mod building;
 pub mod edges;
 
 // The switches of a site, numbered from 0, with ports 1 to 16.
+#[derive(Drop)]
 pub struct Topology {
     switches: u8,
     ports: [PortUse; 256],

@@ -1,15 +1,15 @@
 ghost use mathlib.Core.Path.{_≡_};
-ghost use Prim.Native.Nat.{_+_, _*_, _≤_, _<_};
-ghost use lib.ListN.{length};
 ghost use Rattle.std.specs.Options.{mapped};
 ghost use Rattle.std.specs.Iters.{counting};
 ghost use Rattle.std.specs.shelf.Maps.{nth};
 ghost use Rattle.rules.specs.declared.switch.Switch.{Switch};
+ghost use Rattle.messages.specs.Lines.{line-of};
 ghost use Rattle.messages.specs.Sent.{sent};
-ghost use Rattle.plans.specs.Planned.{switches, ports, rules, edges, old-tag, new-tag, planned};
+ghost use Rattle.plans.specs.Planned.{switches, ports, rules, old-tag, new-tag, planned};
 ghost use Rattle.plans.specs.Series.{is-edge-port, adds, barriers, removes, stamps, installing, flipping, collecting, with-xid};
 use crate::plan::Plan;
 use messages::add::Add;
+use messages::line::Line;
 use messages::message::Message;
 use patterns::port::Port;
 use rules::row::Action;
@@ -98,14 +98,6 @@ impl<'a> Plan<'a> {
         if place < switches { self.remove(place) } else { self.barrier(place - switches) }
     }
 
-    // How many messages the whole series has: one per rule, one per edge port, four per switch.
-    pub fn len(&self) -> usize
-        ensures all { λ r. ⌜ r ≡ length (planned (now (self .entry))) ⌝ }
-        ensures parts { λ r. ⌜ r ≡ length (rules (now (self .entry))) + length (edges (now (self .entry))) + 4 * switches (now (self .entry)) ⌝ }
-    {
-        self.configuration.len() + self.topology.edge_count() + 4 * usize::from(self.topology.switches())
-    }
-
     // The message at a place of the whole series, from 0.
     fn at(&self, place: usize) -> Option<Message>
         ensures { λ r. ⌜ mapped sent r ≡ nth (planned (now (self .entry))) place ⌝ }
@@ -123,12 +115,22 @@ impl<'a> Plan<'a> {
     }
 
     // The message with an xid; the first has xid 1.
-    pub fn message(&self, xid: usize) -> Option<Message>
+    pub fn message(&self, xid: u32) -> Option<Message>
         ensures { λ r. ⌜ mapped sent r ≡ with-xid (planned (now (self .entry))) xid ⌝ }
     {
         if xid == 0 {
             return None;
         }
-        self.at(xid - 1)
+        self.at(xid as usize - 1)
+    }
+
+    // The same as a line of a listing.
+    pub fn line(&self, xid: u32) -> Option<Line>
+        ensures { λ r. ⌜ r ≡ mapped (line-of xid) (with-xid (planned (now (self .entry))) xid) ⌝ }
+    {
+        match self.message(xid) {
+            Some(message) => Some(Line::of(xid, message)),
+            None => None,
+        }
     }
 }

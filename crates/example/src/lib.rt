@@ -1,0 +1,3 @@
+// The example site, and worked cases under the definitions.
+pub mod cases;
+pub mod site;
