@@ -7,15 +7,22 @@ use plans::version::Version;
 use std::io;
 use topologies::topology::Topology;
 
-fn heading(rt: &impl Print, topology: &Topology, plan: &Plan<'_>, in_force: Version) -> io::Result<()> {
+fn heading(
+    rt: &impl Print,
+    topology: &Topology,
+    plan: &Plan<'_>,
+    in_force: Version,
+) -> io::Result<()> {
     let switches = topology.switches();
     let edge_ports = topology.edge_count();
     let links = topology.link_count();
     let rules = plan.sum().rules;
     let old = in_force.tag().number();
     let new = in_force.other().tag().number();
-    println!(rt, "site: {switches} switches, {edge_ports} edge ports, {links} links")?;
-    println!(rt, "update: {rules} rules, from tag {old} to tag {new}")
+    println!(
+        rt,
+        "switches {switches}, edge ports {edge_ports}, links {links}, rules {rules}, tag {old} to tag {new}"
+    )
 }
 
 fn listing(rt: &impl Print, plan: &Plan<'_>) -> io::Result<()> {
@@ -34,7 +41,10 @@ fn sum(rt: &impl Print, plan: &Plan<'_>) -> io::Result<()> {
     let rules = sum.rules;
     let edge_ports = sum.edge_ports;
     let switch_messages = sum.switch_messages;
-    println!(rt, "sum {total}: {rules} for rules, {edge_ports} for edge ports, {switch_messages} for switches")
+    println!(
+        rt,
+        "sum {total}: {rules} for rules, {edge_ports} for edge ports, {switch_messages} for switches"
+    )
 }
 
 fn refused(rt: &impl Print, number: u8) -> io::Result<()> {

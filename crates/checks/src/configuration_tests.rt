@@ -1,4 +1,4 @@
-use crate::rule_tests::open;
+use crate::samples::open;
 use configurations::configuration::Configuration;
 use configurations::fault::ConfigurationFault;
 use rules::row::Row;
@@ -53,7 +53,14 @@ fn the_lowest_bad_row_is_named_before_any_clash() -> Result<(), Fail> {
 
 #[test]
 fn the_lowest_later_place_then_the_lowest_earlier() -> Result<(), Fail> {
-    let rows = [open(0, 5), open(1, 5), open(2, 5), open(1, 5), open(1, 5), open(0, 5)];
+    let rows = [
+        open(0, 5),
+        open(1, 5),
+        open(2, 5),
+        open(1, 5),
+        open(1, 5),
+        open(0, 5),
+    ];
     let mut configuration = Configuration::new();
     match configuration.set(&rows) {
         Err(ConfigurationFault::Clash(later, earlier)) => {
@@ -65,7 +72,11 @@ fn the_lowest_later_place_then_the_lowest_earlier() -> Result<(), Fail> {
 }
 
 // Whether the first setting is granted and the second is not.
-fn only_first<'a>(configuration: &mut Configuration<'a>, first: &'a [Row], second: &'a [Row]) -> bool {
+fn only_first<'a>(
+    configuration: &mut Configuration<'a>,
+    first: &'a [Row],
+    second: &'a [Row],
+) -> bool {
     configuration.set(first).is_ok() && !configuration.set(second).is_ok()
 }
 

@@ -8,4 +8,6 @@ mod plan_tests;
 #[cfg(test)]
 mod rule_tests;
 #[cfg(test)]
+mod samples;
+#[cfg(test)]
 mod topology_tests;

@@ -1,4 +1,4 @@
-use crate::rule_tests::open;
+use crate::samples::open;
 use configurations::configuration::Configuration;
 use example::site;
 use plans::plan::Plan;
@@ -60,7 +60,17 @@ fn lengths_and_tags_of_an_update_back() -> Result<(), Fail> {
         return Err(Fail::new("no topology"));
     };
     check(topology.edge(Spot { switch: 0, port: 3 }).is_ok())?;
-    let rows = [open(0, 1), Row { action: Action::Out(2), ..open(0, 2) }, Row { action: Action::Out(3), ..open(0, 3) }];
+    let rows = [
+        open(0, 1),
+        Row {
+            action: Action::Out(2),
+            ..open(0, 2)
+        },
+        Row {
+            action: Action::Out(3),
+            ..open(0, 3)
+        },
+    ];
     let mut configuration = Configuration::new();
     check(configuration.set(&rows).is_ok())?;
     match Plan::new(&topology, configuration, Version::Second) {

@@ -52,7 +52,9 @@ fn edges_at_the_limits() -> Result<(), Fail> {
 fn links_refuse_in_order() -> Result<(), Fail> {
     let mut t = site(2)?;
     check_eq(number(t.edge(at(0, 1))), 0)?;
-    check_eq(number(t.link(at(0, 1), at(9, 9))), 33).note("a port that is none comes before one that is used")?;
+    check_eq(number(t.link(at(0, 1), at(9, 9))), 33).note(
+        "a port that is none comes before one that is used",
+    )?;
     check_eq(number(t.link(at(9, 9), at(0, 1))), 33)?;
     check_eq(number(t.link(at(0, 1), at(1, 2))), 34)?;
     check_eq(number(t.link(at(1, 2), at(0, 1))), 34)?;

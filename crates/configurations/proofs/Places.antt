@@ -49,7 +49,7 @@ module _ (rows : List Row) where
   some-fault : (k : ℕ) {f : RuleFault} → fault-at rows k ≡ Some f → k < length rows
   some-fault k e =
       elim (cases-lt k (length rows)) [
-        inl h ↦ h
+        | inl h ↦ h
         | inr h ↦ absurd (false≢true (ap (λ o. isSome (flattened (mapped row-fault o))) (sym (nth-past rows k h)) ∙ ap isSome e))
       ]
 

@@ -8,8 +8,8 @@ use Rattle.example.specs.Cases.{Worked}
 
 pub worked : Worked
 worked = record {
-    prefixes-meet = refl;
-    prefixes-apart = refl;
-    example-series = refl;
-    smallest-series = λ ports old new e. length-series 1 ports [] old new ∙ ap (λ xs. 0 + length xs + 4 * 1) e
-  }
+  prefixes-meet = refl;
+  prefixes-apart = refl;
+  example-series = refl;
+  smallest-series = λ ports old new e. length-series 1 ports [] old new ∙ ap (λ xs. 0 + length xs + 4 * 1) e;
+}

@@ -25,12 +25,12 @@ pub record Worked : Type 0 where
   pub prefixes-apart : meet (block 0x0a00_0000 9) (block 0x0a80_0000 9) ≡ None
   -- the example's series: adds, barriers, stamps, barriers, removes, barriers, each to switch 0, then 1
   pub example-series :
-    series 2 site-ports site-rules 1 2
-    ≡ add 2 (site-rule 0 2) false ∷ add 2 (site-rule 1 1) true
-    ∷ barrier 0 ∷ barrier 1
-    ∷ stamp 0 1 2 ∷ stamp 1 1 2
-    ∷ barrier 0 ∷ barrier 1
-    ∷ remove 0 1 ∷ remove 1 1
-    ∷ barrier 0 ∷ barrier 1 ∷ []
+      series 2 site-ports site-rules 1 2
+      ≡ add 2 (site-rule 0 2) false ∷ add 2 (site-rule 1 1) true
+      ∷ barrier 0 ∷ barrier 1
+      ∷ stamp 0 1 2 ∷ stamp 1 1 2
+      ∷ barrier 0 ∷ barrier 1
+      ∷ remove 0 1 ∷ remove 1 1
+      ∷ barrier 0 ∷ barrier 1 ∷ []
   -- with no rule, no edge port and one switch the series has 4 messages
   pub smallest-series : (ports : List PortUse) (old new : ℕ) → edge-ports 1 ports ≡ [] → length (series 1 ports [] old new) ≡ 4

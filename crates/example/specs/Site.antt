@@ -24,12 +24,12 @@ block address length = record { address = address; length = length }
 -- Destination 10.1.0.0/16, otherwise open.
 abbrev pub site-pattern : PatternRow
 site-pattern = record {
-    «in_port» = Open;
-    source = block 0 0;
-    destination = block 0x0a01_0000 16;
-    protocol = Open;
-    «destination_port» = Open
-  }
+  «in_port» = Open;
+  source = block 0 0;
+  destination = block 0x0a01_0000 16;
+  protocol = Open;
+  «destination_port» = Open;
+}
 
 abbrev pub site-rule : ℕ → ℕ → Row
 site-rule switch port = record { switch = switch; priority = 10; pattern = site-pattern; action = Out port }

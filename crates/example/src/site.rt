@@ -28,16 +28,32 @@ pub fn topology() -> Result<Topology, TopologyFault>
 pub fn rows() -> [Row; 2]
     ensures { λ r. ⌜ r ≡ site-rules ⌝ }
 {
-    let any = Block { address: 0, length: 0 };
+    let any = Block {
+        address: 0,
+        length: 0,
+    };
     let pattern = PatternRow {
         in_port: Number::Open,
         source: any,
-        destination: Block { address: 0x0a01_0000, length: 16 },
+        destination: Block {
+            address: 0x0a01_0000,
+            length: 16,
+        },
         protocol: Number::Open,
         destination_port: Number::Open,
     };
     [
-        Row { switch: 0, priority: 10, pattern, action: Action::Out(2) },
-        Row { switch: 1, priority: 10, pattern, action: Action::Out(1) },
+        Row {
+            switch: 0,
+            priority: 10,
+            pattern,
+            action: Action::Out(2),
+        },
+        Row {
+            switch: 1,
+            priority: 10,
+            pattern,
+            action: Action::Out(1),
+        },
     ]
 }

@@ -28,7 +28,11 @@ impl Add {
             Action::Drop => false,
             Action::Out(_) => true,
         };
-        Add { tag, rule, strip: out && strip }
+        Add {
+            tag,
+            rule,
+            strip: out && strip,
+        }
     }
 
     pub fn tag(self) -> Tag

@@ -42,7 +42,14 @@ impl Line {
             Message::Remove(_, tag) => (Kind::Remove, tag.number(), 0),
             Message::Barrier(_) => (Kind::Barrier, 0, 0),
         };
-        Line { xid, switch: message.switch(), kind, tag, port, bytes: message.wire_length() }
+        Line {
+            xid,
+            switch: message.switch(),
+            kind,
+            tag,
+            port,
+            bytes: message.wire_length(),
+        }
     }
 }
 
@@ -63,7 +70,14 @@ pub impl fmt::Display for Line as LineDisplay {
     ghost shown = { λ l. Some (line-text l) };
 
     fn fmt<W: fmt::Write>(&self, f: &mut fmt::Formatter<W>) -> fmt::Result {
-        let Line { xid, switch, kind, tag, port, bytes } = *self;
+        let Line {
+            xid,
+            switch,
+            kind,
+            tag,
+            port,
+            bytes,
+        } = *self;
         let name = kind.name();
         write!(f, "{xid} {switch} {name} {tag} {port} {bytes}")
     }

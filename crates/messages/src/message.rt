@@ -46,13 +46,7 @@ impl Message {
         match self {
             Message::Add(add) => match add.rule().row().action {
                 Action::Drop => 72,
-                Action::Out(_) => {
-                    if add.strip() {
-                        88
-                    } else {
-                        80
-                    }
-                }
+                Action::Out(_) => { if add.strip() { 88 } else { 80 } }
             },
             Message::Stamp(_, _, _) => 80,
             Message::Remove(_, _) => 72,

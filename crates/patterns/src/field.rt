@@ -1,7 +1,8 @@
 ghost use mathlib.Core.Path.{_≡_};
 ghost use mathlib.Core.Bool.{Bool, true};
-ghost use Prim.Native.Nat.{_<_, _^_};
-ghost use lib.Dec.{eqb};
+ghost use Prim.Native.Nat.{_<_, _≤_, _^_};
+ghost use lib.Dec.{eqb, lit≤};
+use crate::port::Port;
 
 // A kind of number that a number pattern can fix: equality as a test, and the values that its type can hold.
 pub trait Field: Copy {
@@ -43,5 +44,18 @@ pub impl Field for u16 as U16Field {
 
     fn equals(self, other: u16) -> bool {
         self == other
+    }
+}
+
+pub impl Field for Port as PortField {
+    ghost same = { λ a b. eqb (a .number) (b .number) };
+
+    // The type holds no other.
+    ghost fits = { λ p. (1 ≤ p .number) × (p .number ≤ 16) };
+
+    ghost sample = { record { number = 1; ok = (lit≤ tt, lit≤ tt) } };
+
+    fn equals(self, other: Port) -> bool {
+        self.number() == other.number()
     }
 }

@@ -32,13 +32,7 @@ pub impl<T: Field + Drop> Pattern for Number<T> as NumberPattern {
         match (*self, *other) {
             (Number::Open, _) => Some(*other),
             (Number::Fixed(_), Number::Open) => Some(*self),
-            (Number::Fixed(v), Number::Fixed(w)) => {
-                if v.equals(w) {
-                    Some(*self)
-                } else {
-                    None
-                }
-            }
+            (Number::Fixed(v), Number::Fixed(w)) => { if v.equals(w) { Some(*self) } else { None } }
         }
     }
 }

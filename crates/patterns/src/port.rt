@@ -1,9 +1,6 @@
 ghost use mathlib.Core.Path.{_≡_};
-ghost use mathlib.Core.Bool.{true, false};
-ghost use Prim.Native.Nat.{_<_, _≤_};
-ghost use lib.Dec.{eqb, lit≤};
+ghost use Prim.Native.Nat.{_≤_};
 ghost use Rattle.std.specs.declared.option.Option.the-variants.{Some, None};
-use crate::field::Field;
 
 // A port of a switch, 1 to 16.
 #[derive(Clone, Copy, PartialEq, Eq)]
@@ -26,18 +23,5 @@ impl Port {
         ensures { λ r. ⌜ r ≡ self .number ⌝ }
     {
         self.number
-    }
-}
-
-pub impl Field for Port as PortField {
-    ghost same = { λ a b. eqb (a .number) (b .number) };
-
-    // The type holds no other.
-    ghost fits = { λ p. (1 ≤ p .number) × (p .number ≤ 16) };
-
-    ghost sample = { record { number = 1; ok = (lit≤ tt, lit≤ tt) } };
-
-    fn equals(self, other: Port) -> bool {
-        self.number == other.number
     }
 }

@@ -1,5 +1,7 @@
 ghost use mathlib.Core.Path.{_≡_};
+ghost use mathlib.Core.Bool.{cond};
 ghost use Prim.Native.Nat.{_-_, _%_, _^_, _<_, _≤_};
+ghost use lib.Dec.{leb};
 ghost use Rattle.std.specs.declared.option.Option.the-variants.{Some, None};
 ghost use Rattle.patterns.specs.Prefixes.{same-start, meet-by};
 use crate::pattern::Pattern;
@@ -19,6 +21,13 @@ fn starts(length: u8, a: u32, x: u32) -> bool
 {
     let gap = 32 - u32::from(length);
     u64::from(a) >> gap == u64::from(x) >> gap
+}
+
+// The shorter of two prefixes and then the other; where they are as long, in the order given.
+fn by_length(a: Prefix, b: Prefix) -> (Prefix, Prefix)
+    ensures { λ r. ⌜ r ≡ cond (leb (a .length) (b .length)) (a, b) (b, a) ⌝ }
+{
+    if a.length <= b.length { (a, b) } else { (b, a) }
 }
 
 impl Prefix {
@@ -57,15 +66,12 @@ pub impl Pattern for Prefix as PrefixPattern {
     ghost sound = { λ _. Unit {0} };
 
     fn admits(&self, x: &u32) -> bool {
-        starts(self.length, self.address, *x)
+        let p = *self;
+        starts(p.length, p.address, *x)
     }
 
     fn meet(&self, other: &Prefix) -> Option<Prefix> {
-        let (short, long) = if self.length <= other.length {
-            (*self, *other)
-        } else {
-            (*other, *self)
-        };
+        let (short, long) = by_length(*self, *other);
         if starts(short.length, short.address, long.address) {
             Some(long)
         } else {

@@ -1,2 +1,3 @@
 pub mod Switches
 pub mod Sizes
+pub mod Fences

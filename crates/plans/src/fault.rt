@@ -1,4 +1,5 @@
 ghost use mathlib.Core.Path.{_≡_};
+ghost use Rattle.plans.specs.Faults.{plan-number};
 
 // The lowest place of a rule on a switch that the topology does not have, and that switch.
 #[derive(Clone, Copy, PartialEq, Eq)]
@@ -10,7 +11,7 @@ pub struct PlanFault {
 impl PlanFault {
     // The refusal's number in the table of refusals.
     pub fn number(self) -> u8
-        ensures { λ r. ⌜ r ≡ 72 ⌝ }
+        ensures { λ r. ⌜ r ≡ plan-number self ⌝ }
     {
         72
     }

@@ -1,22 +1,26 @@
 -- What stands at a place of a list.
-use mathlib.Core.Path.{_≡_, refl, sym, ap, _∙_}
+use mathlib.Core.Path.{_≡_, refl, sym, ap, _∙_, subst}
 use mathlib.Core.List.{List, [], _∷_, _++_, map}
 use mathlib.Core.Logic.{inl, inr}
-use Prim.Native.Nat.{ℕ, zero, suc, _-_, _<_, _≤_}
-use native.Mathlib.Nat.{sub-zero, suc-sub-suc}
+use Prim.Native.Nat.{ℕ, zero, suc, _+_, _-_, _<_, _≤_}
+use native.Mathlib.Nat.{sub-zero}
 use native.Mathlib.Omega.{arith}
-use lib.ListN.{length}
-use Rattle.std.proofs.shelf.Maps.{nth-past}
+use lib.ListN.{length, getD}
+use Rattle.std.proofs.shelf.Counted.{length-counting, getD-counting}
+use Rattle.std.proofs.shelf.Elements.{all-getD}
+use Rattle.std.proofs.shelf.Maps.{nth-getD, nth-past}
 use Rattle.std.proofs.shelf.Tests.{cases-lt, false≢true}
+use Rattle.std.specs.Iters.{counting}
 use Rattle.std.specs.Options.{isSome, mapped}
 use Rattle.std.specs.declared.option.Option.{Option}
 use Rattle.std.specs.declared.option.Option.the-variants.{Some, None}
+use Rattle.std.specs.shelf.Lists.{All}
 use Rattle.std.specs.shelf.Maps.{nth}
 
 pub nth-within : {X : Type 0} (xs : List X) (k : ℕ) (x : X) → nth xs k ≡ Some x → k < length xs
 nth-within xs k x e =
     elim (cases-lt k (length xs)) [
-      inl h ↦ h
+      | inl h ↦ h
       | inr h ↦ absurd (false≢true (ap isSome (sym (nth-past xs k h) ∙ e)))
     ]
 
@@ -46,3 +50,26 @@ module _ {X : Type 0} (xs ys : List X) (n k : ℕ) (long : length xs ≡ n) (o :
 
   pub in-back : n ≤ k → o ≡ nth ys (k - n) → o ≡ nth (xs ++ ys) k
   in-back h e = e ∙ sym (nth-back xs ys k (rw long h) ∙ ap (λ m. nth ys (k - m)) long)
+
+-- Counting from 0, each number stands at its place.
+pub nth-counting : (n k : ℕ) → k < n → nth (counting 0 n) k ≡ Some k
+nth-counting n k h = nth-getD (counting 0 n) k 0 (rw (length-counting 0 n) h) ∙ ap Some (getD-counting 0 n k 0 h ∙ omega arith)
+
+-- What holds of each element holds of the one at a place.
+pub all-nth : {X : Type 0} (P : X → Type 0) (xs : List X) (k : ℕ) (x : X) → All P xs → nth xs k ≡ Some x → P x
+all-nth P xs k x all e =
+    let h = nth-within xs k x e in
+    let is : getD xs k x ≡ x = grind (arith, nth-getD xs k x h) in
+    subst P is (all-getD P xs k x h all)
+
+pub all-any : {X : Type 0} (P : X → Type 0) → ((x : X) → P x) → (xs : List X) → All P xs
+all-any P p [] = tt
+all-any P p (x ∷ xs) = (p x, all-any P p xs)
+
+pub all-counting : (a n m : ℕ) → a + n ≤ m → All (λ k. k < m) (counting a n)
+all-counting a zero m h = tt
+all-counting a (suc n) m h = (omega arith, all-counting (a + 1) n m (omega arith))
+
+pub all-from-nth : {X : Type 0} (P : X → Type 0) (xs : List X) → ((k : ℕ) (x : X) → nth xs k ≡ Some x → P x) → All P xs
+all-from-nth P [] f = tt
+all-from-nth P (x ∷ xs) f = (f 0 x refl, all-from-nth P xs (λ k. f (suc k)))

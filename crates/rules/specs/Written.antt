@@ -20,9 +20,9 @@ RulePattern = Pair (Number Port) (Pair Prefix (Pair Prefix (Pair (Number ℕ) (N
 
 abbrev pub numbers-of : RulePattern → PatternRow
 numbers-of p = record {
-    «in_port» = port-numbers (p .0);
-    source = block-of (p .1 .0);
-    destination = block-of (p .1 .1 .0);
-    protocol = p .1 .1 .1 .0;
-    «destination_port» = p .1 .1 .1 .1
-  }
+  «in_port» = port-numbers (p .0);
+  source = block-of (p .1 .0);
+  destination = block-of (p .1 .1 .0);
+  protocol = p .1 .1 .1 .0;
+  «destination_port» = p .1 .1 .1 .1;
+}

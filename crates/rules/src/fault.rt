@@ -1,5 +1,5 @@
 ghost use mathlib.Core.Path.{_≡_};
-ghost use Rattle.rules.specs.Faults.{rule-number};
+ghost use Rattle.rules.specs.Faults.{rule-number, tag-number};
 use patterns::number::Number;
 use patterns::number::NumberClone;
 use patterns::number::NumberEq;
@@ -29,5 +29,20 @@ impl RuleFault {
             RuleFault::PortWithoutTransport(_, _) => 25,
             RuleFault::OutPort(_) => 26,
         }
+    }
+}
+
+// A number that makes no tag.
+#[derive(Clone, Copy, PartialEq, Eq)]
+pub struct TagFault {
+    pub tag: u16,
+}
+
+impl TagFault {
+    // The refusal's number in the table of refusals.
+    pub fn number(self) -> u8
+        ensures { λ r. ⌜ r ≡ tag-number self ⌝ }
+    {
+        29
     }
 }

@@ -1,27 +1,13 @@
 ghost use mathlib.Core.Path.{_≡_};
 ghost use Prim.Native.Nat.{_≤_};
 ghost use Rattle.std.specs.declared.result.Result.the-variants.{Ok, Err};
+use crate::fault::TagFault;
 
 // A version tag, 1 to 4094. It travels as a packet's VLAN number.
 #[derive(Clone, Copy, PartialEq, Eq)]
 pub struct Tag {
     number: u16,
     ghost ok: { (1 ≤ number) × (number ≤ 4094) },
-}
-
-// A number that makes no tag.
-#[derive(Clone, Copy, PartialEq, Eq)]
-pub struct TagFault {
-    pub tag: u16,
-}
-
-impl TagFault {
-    // The refusal's number in the table of refusals.
-    pub fn number(self) -> u8
-        ensures { λ r. ⌜ r ≡ 29 ⌝ }
-    {
-        29
-    }
 }
 
 impl Tag {

@@ -38,7 +38,7 @@ module _ (n : ℕ) (ports : List PortUse) where
   unlike : (s o : Spot) → is-unused (use-of ports s) ≡ true → is-unused (use-of ports o) ≡ false → same o s ≡ false
   unlike s o free used =
       elim (cases-bool (same o s)) [
-        inl e ↦ absurd (true≢false (sym free ∙ ap (λ x. is-unused (use-of ports x)) (sym (same-is o s e)) ∙ used))
+        | inl e ↦ absurd (true≢false (sym free ∙ ap (λ x. is-unused (use-of ports x)) (sym (same-is o s e)) ∙ used))
         | inr e ↦ e
       ]
 
@@ -46,7 +46,7 @@ module _ (n : ℕ) (ports : List PortUse) where
     pub edge-uses : (s : Spot) → within n s ≡ true → Uses n (with-edge ports s) (edge-use ports s)
     edge-uses s w q v =
         elim (cases-bool (same q s)) [
-          inl e ↦ rw e (ap (use-of (with-edge ports s)) (same-is q s e) ∙ use-here ports s Edge (rw all (index-below n s few w)))
+          | inl e ↦ rw e (ap (use-of (with-edge ports s)) (same-is q s e) ∙ use-here ports s Edge (rw all (index-below n s few w)))
           | inr e ↦ rw e (use-elsewhere ports s Edge n q v w e)
         ]
 
@@ -56,9 +56,9 @@ module _ (n : ℕ) (ports : List PortUse) where
         let after = with-link ports a b in
         let long : length one ≡ 256 = length-set ports (index a) (Linked b) ∙ all in
         elim (cases-bool (same q a)) [
-          inl e ↦ rw e (ap (use-of after) (same-is q a e) ∙ use-elsewhere one b (Linked a) n a wa wb ne ∙ use-here ports a (Linked b) (rw all (index-below n a few wa)))
+          | inl e ↦ rw e (ap (use-of after) (same-is q a e) ∙ use-elsewhere one b (Linked a) n a wa wb ne ∙ use-here ports a (Linked b) (rw all (index-below n a few wa)))
           | inr na ↦ elim (cases-bool (same q b)) [
-            inl e ↦ rw (na, e) (ap (use-of after) (same-is q b e) ∙ use-here one b (Linked a) (rw long (index-below n b few wb)))
+            | inl e ↦ rw (na, e) (ap (use-of after) (same-is q b e) ∙ use-here one b (Linked a) (rw long (index-below n b few wb)))
             | inr nb ↦ rw (na, nb) (use-elsewhere one b (Linked a) n q v wb nb ∙ use-elsewhere ports a (Linked b) n q v wa na)
           ]
         ]
@@ -70,7 +70,7 @@ module _ (n : ℕ) (ports : List PortUse) where
           let uses = edge-uses s w in
           let keeps : Keeps after = λ o x used. uses o x ∙ cond-false _ _ _ (unlike s o free used) in
           elim (cases-bool (same q s)) [
-            inl e ↦ rw (uses q v, e)
+            | inl e ↦ rw (uses q v, e)
             | inr e ↦ rw (uses q v, e) (still-back after keeps q (use-of ports q) (paired q v))
           ]
 
@@ -86,9 +86,9 @@ module _ (n : ℕ) (ports : List PortUse) where
           let at-b : use-of after b ≡ Linked a = uses b wb ∙ cond-false _ _ _ (same-swap a b ne) ∙ cond-true _ _ _ (same-self b) in
           let keeps : Keeps after = λ o x used. uses o x ∙ cond-false _ _ _ (unlike a o fa used) ∙ cond-false _ _ _ (unlike b o fb used) in
           elim (cases-bool (same q a)) [
-            inl e ↦ rw (same-is q a e, at-a) (ends after a b wb (same-swap a b ne) at-b)
+            | inl e ↦ rw (same-is q a e, at-a) (ends after a b wb (same-swap a b ne) at-b)
             | inr na ↦ elim (cases-bool (same q b)) [
-              inl e ↦ rw (same-is q b e, at-b) (ends after b a wa ne at-a)
+              | inl e ↦ rw (same-is q b e, at-b) (ends after b a wa ne at-a)
               | inr nb ↦ rw (uses q v, na, nb) (still-back after keeps q (use-of ports q) (paired q v))
             ]
           ]

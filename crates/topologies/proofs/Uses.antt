@@ -27,7 +27,7 @@ same-is a b e =
 pub same-swap : (a b : Spot) → same a b ≡ false → same b a ≡ false
 same-swap a b ne =
     elim (cases-bool (same b a)) [
-      inl e ↦ absurd (true≢false (sym (ap (λ x. same a x) (same-is b a e) ∙ same-self a) ∙ ne))
+      | inl e ↦ absurd (true≢false (sym (ap (λ x. same a x) (same-is b a e) ∙ same-self a) ∙ ne))
       | inr e ↦ e
     ]
 

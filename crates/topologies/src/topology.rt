@@ -16,3 +16,12 @@ pub struct Topology {
     ghost all: { length ports ≡ 256 },
     ghost paired: { Paired switches ports },
 }
+
+impl Topology {
+    // How many there are.
+    pub fn switches(&self) -> u8
+        ensures { λ r. ⌜ r ≡ now (self .entry) .switches ⌝ }
+    {
+        self.switches
+    }
+}

@@ -104,14 +104,15 @@ impl<'a> Configuration<'a> {
     pub fn rows(&self) -> &'a [Row]
         ensures { λ r. ⌜ now r ≡ now (self .entry) .rows .now ⌝ }
     {
-        self.rows
+        let Configuration { rows } = *self;
+        rows
     }
 
     // The rule at a place, counted from 0.
     pub fn rule(&self, place: usize) -> Option<Rule>
         ensures { λ r. ⌜ mapped (λ (rule : Rule). rule .row) r ≡ nth (now (self .entry) .rows .now) place ⌝ }
     {
-        if place >= self.rows.len() {
+        if place >= self.len() {
             return None;
         }
         Some(rule_at(self.rows, place))

@@ -26,7 +26,10 @@ fn leaves(topology: &Topology, rule: Rule) -> bool
     let row = rule.row();
     match row.action {
         Action::Drop => false,
-        Action::Out(port) => match topology.port_use(Spot { switch: row.switch, port }) {
+        Action::Out(port) => match topology.port_use(Spot {
+            switch: row.switch,
+            port,
+        }) {
             Ok(PortUse::Edge) => true,
             _ => false,
         },
@@ -81,21 +84,33 @@ impl<'a> Plan<'a> {
         ensures { λ r. ⌜ mapped sent r ≡ nth (installing (switches (now (self .entry))) (ports (now (self .entry))) (rules (now (self .entry))) (new-tag (now (self .entry)))) place ⌝ }
     {
         let rules = self.configuration.len();
-        if place < rules { self.add(place) } else { self.barrier(place - rules) }
+        if place < rules {
+            self.add(place)
+        } else {
+            self.barrier(place - rules)
+        }
     }
 
     fn flipping(&self, place: usize) -> Option<Message>
         ensures { λ r. ⌜ mapped sent r ≡ nth (flipping (switches (now (self .entry))) (ports (now (self .entry))) (new-tag (now (self .entry)))) place ⌝ }
     {
         let edges = self.topology.edge_count();
-        if place < edges { self.stamp(place) } else { self.barrier(place - edges) }
+        if place < edges {
+            self.stamp(place)
+        } else {
+            self.barrier(place - edges)
+        }
     }
 
     fn collecting(&self, place: usize) -> Option<Message>
         ensures { λ r. ⌜ mapped sent r ≡ nth (collecting (switches (now (self .entry))) (old-tag (now (self .entry)))) place ⌝ }
     {
         let switches = usize::from(self.topology.switches());
-        if place < switches { self.remove(place) } else { self.barrier(place - switches) }
+        if place < switches {
+            self.remove(place)
+        } else {
+            self.barrier(place - switches)
+        }
     }
 
     // The message at a place of the whole series, from 0.

@@ -22,6 +22,11 @@ impl Plan<'_> {
         let rules = self.configuration.len() as u32;
         let edge_ports = self.topology.edge_count() as u32;
         let switch_messages = 4 * u32::from(self.topology.switches());
-        Sum { total: rules + edge_ports + switch_messages, rules, edge_ports, switch_messages }
+        Sum {
+            total: rules + edge_ports + switch_messages,
+            rules,
+            edge_ports,
+            switch_messages,
+        }
     }
 }

@@ -5,7 +5,7 @@ ghost use lib.ListN.{length, replicate};
 ghost use Rattle.std.specs.Results.{errPart, isOk};
 ghost use Rattle.std.specs.Vec.{made};
 ghost use Rattle.topologies.specs.declared.spot.PortUse.the-variants.{Unused};
-ghost use Rattle.topologies.specs.Ports.{within, index, use-of, is-unused};
+ghost use Rattle.topologies.specs.Ports.{within, index, use-of, is-unused, links-back};
 ghost use Rattle.topologies.specs.Building.{switches-fault, port-fault, used-fault, edge-fault, link-fault, with-edge, with-link, edge-use, link-use, Uses};
 use crate::fault::TopologyFault;
 use crate::spot::PortUse;
@@ -13,9 +13,9 @@ use crate::spot::Spot;
 use crate::topology::Topology;
 
 // Where the use of a port lies.
-pub(crate) fn index_of(at: Spot, switches: u8) -> usize
-    requires few { ⌜ switches ≤ 16 ⌝ }
-    requires inside { ⌜ within switches at ≡ true ⌝ }
+fn index_of(at: Spot) -> usize
+    requires switch { ⌜ at .switch < 16 ⌝ }
+    requires port { ⌜ (1 ≤ at .port) × (at .port ≤ 16) ⌝ }
     ensures place { λ r. ⌜ r ≡ index at ⌝ }
     ensures bound { λ r. ⌜ r < 256 ⌝ }
 {
@@ -31,10 +31,13 @@ impl Topology {
         if switches < 1 || switches > 16 {
             return Err(TopologyFault::Switches(switches));
         }
-        Ok(Topology { switches, ports: [PortUse::Unused; 256] })
+        Ok(Topology {
+            switches,
+            ports: [PortUse::Unused; 256],
+        })
     }
 
-    pub(crate) fn check_port(&self, at: Spot) -> Result<(), TopologyFault>
+    fn check_port(&self, at: Spot) -> Result<(), TopologyFault>
         ensures refusal { λ r. ⌜ errPart r ≡ port-fault (now (self .entry) .switches) at ⌝ }
         ensures inside { λ r. ⌜ made r (λ _. within (now (self .entry) .switches) at ≡ true) ⌝ }
     {
@@ -49,7 +52,7 @@ impl Topology {
         ensures refusal { λ r. ⌜ errPart r ≡ used-fault (now (self .entry) .ports) at ⌝ }
         ensures unused { λ r. ⌜ made r (λ _. is-unused (use-of (now (self .entry) .ports) at) ≡ true) ⌝ }
     {
-        match self.ports[index_of(at, self.switches)] {
+        match self.ports[index_of(at)] {
             PortUse::Unused => Ok(()),
             _ => Err(TopologyFault::Used(at)),
         }
@@ -63,7 +66,7 @@ impl Topology {
     {
         self.check_port(at)?;
         self.check_unused(at)?;
-        let i = index_of(at, self.switches);
+        let i = index_of(at);
         self.ports[i] = PortUse::Edge;
         Ok(())
     }
@@ -81,10 +84,20 @@ impl Topology {
         if a.switch == b.switch && a.port == b.port {
             return Err(TopologyFault::Used(b));
         }
-        let i = index_of(a, self.switches);
-        let j = index_of(b, self.switches);
+        let i = index_of(a);
+        let j = index_of(b);
         self.ports[i] = PortUse::Linked(b);
         self.ports[j] = PortUse::Linked(a);
         Ok(())
+    }
+
+    // What a port is used for. A link's other end is a port of the topology, another one, and linked with this one.
+    pub fn port_use(&self, at: Spot) -> Result<PortUse, TopologyFault>
+        ensures refusal { λ r. ⌜ errPart r ≡ port-fault (now (self .entry) .switches) at ⌝ }
+        ensures value { λ r. ⌜ made r (λ u. u ≡ use-of (now (self .entry) .ports) at) ⌝ }
+        ensures back { λ r. ⌜ made r (λ u. links-back (now (self .entry) .switches) (now (self .entry) .ports) at u ≡ true) ⌝ }
+    {
+        self.check_port(at)?;
+        Ok(self.ports[index_of(at)])
     }
 }

@@ -2,25 +2,23 @@ ghost use mathlib.Core.Path.{_≡_};
 ghost use mathlib.Core.Bool.{true};
 ghost use Prim.Native.Nat.{_<_, _≤_, _*_, _/_};
 ghost use lib.ListN.{length};
-ghost use Rattle.std.specs.Results.{errPart};
 ghost use Rattle.std.specs.Slices.{found};
-ghost use Rattle.std.specs.Vec.{made};
 ghost use Rattle.std.specs.shelf.Maps.{nth};
-ghost use Rattle.topologies.specs.Ports.{within, use-of, spot-at, is-of, ports-of, edge-ports, link-count, links-back};
-ghost use Rattle.topologies.specs.Building.{port-fault};
-use crate::fault::TopologyFault;
+ghost use Rattle.topologies.specs.Ports.{within, use-of, spot-at, is-of, ports-of, edge-ports, link-count};
 use crate::spot::PortKind;
 use crate::spot::PortUse;
 use crate::spot::Spot;
 use crate::topology::Topology;
-use crate::topology::building::index_of;
 
 // The port whose use lies at a place.
 fn spot_at(i: usize) -> Spot
     requires { ⌜ i < 256 ⌝ }
     ensures { λ r. ⌜ r ≡ spot-at i ⌝ }
 {
-    Spot { switch: (i / 16) as u8, port: (i % 16 + 1) as u8 }
+    Spot {
+        switch: (i / 16) as u8,
+        port: (i % 16 + 1) as u8,
+    }
 }
 
 impl PortUse {
@@ -36,22 +34,6 @@ impl PortUse {
 }
 
 impl Topology {
-    pub fn switches(&self) -> u8
-        ensures { λ r. ⌜ r ≡ now (self .entry) .switches ⌝ }
-    {
-        self.switches
-    }
-
-    // What a port is used for. A link's other end is a port of the topology, another one, and linked with this one.
-    pub fn port_use(&self, at: Spot) -> Result<PortUse, TopologyFault>
-        ensures refusal { λ r. ⌜ errPart r ≡ port-fault (now (self .entry) .switches) at ⌝ }
-        ensures value { λ r. ⌜ made r (λ u. u ≡ use-of (now (self .entry) .ports) at) ⌝ }
-        ensures back { λ r. ⌜ made r (λ u. links-back (now (self .entry) .switches) (now (self .entry) .ports) at u ≡ true) ⌝ }
-    {
-        self.check_port(at)?;
-        Ok(self.ports[index_of(at, self.switches)])
-    }
-
     // How many ports are used for this.
     fn count(&self, kind: PortKind) -> usize
         ensures value { λ r. ⌜ r ≡ length (ports-of kind (now (self .entry) .switches) (now (self .entry) .ports)) ⌝ }

@@ -15,5 +15,5 @@ returns c =
     let second = two .1 ∙ ap (λ (ps : List PortUse). with-edge ps (at 1 1)) first in
     record {
       granted = refl;
-      value = (all .0 ∙ two .0 ∙ one .0 ∙ new .0, all .1 ∙ ap (λ (ps : List PortUse). with-link ps (at 0 2) (at 1 2)) second)
+      value = (all .0 ∙ two .0 ∙ one .0 ∙ new .0, all .1 ∙ ap (λ (ps : List PortUse). with-link ps (at 0 2) (at 1 2)) second);
     }

@@ -18,5 +18,5 @@ returns g c =
     let e : c .is-some .result ≡ isSome (g .P·Pattern .meeting a b) = c .is-some .ensures ∙ ap isSome (c .meet .ensures) in
     record {
       value = e;
-      cases = rw e (by-meet (g .P·Pattern .admitting) a b (g .P·Pattern .meeting a b) _ (g .P·Pattern·met .exact a b) (λ t u v. g .P·Pattern·met .shared a b u v t))
+      cases = rw e (by-meet (g .P·Pattern .admitting) a b (g .P·Pattern .meeting a b) _ (g .P·Pattern·met .exact a b) (λ t u v. g .P·Pattern·met .shared a b u v t));
     }

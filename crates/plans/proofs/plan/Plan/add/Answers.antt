@@ -32,5 +32,5 @@ returns c =
     let tag : c .new .result .tag .number ≡ tag-of (other (p .«in_force»)) = ap (λ (t : Tag). t .number) (c .new .ensures .0) ∙ c .tag .ensures ∙ ap tag-of (c .other .ensures .value) in
     let row : c .new .result .rule .row ≡ rule .row = ap (λ (r : Rule). r .row) (c .new .ensures .1) in
     let strip : c .new .result .strip ≡ is-edge-port (t .switches) (t .ports) (rule .row .switch) (rule .row .action) =
-      c .new .ensures .2 ∙ ap (λ b. goes-out (rule .row .action) && b) (c .leaves-strip .ensures) ∙ mark-stays (t .switches) (t .ports) (rule .row .switch) (rule .row .action) in
+    c .new .ensures .2 ∙ ap (λ b. goes-out (rule .row .action) && b) (c .leaves-strip .ensures) ∙ mark-stays (t .switches) (t .ports) (rule .row .switch) (rule .row .action) in
     rw (tag, row, strip) (mapped-at (add-of (t .switches) (t .ports) (tag-of (other (p .«in_force»)))) (p .configuration .rows .now) (c .args .place) _ (c .in-Continue-rule .ensures tt))

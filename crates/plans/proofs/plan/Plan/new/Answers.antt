@@ -1,6 +1,10 @@
 use mathlib.Core.Path.{subst}
+use borrow.Author.Needs.{needs}
+use lib.ListN.{length}
 use Rattle.std.proofs.shelf.Results.{err-from-errBy}
-use Rattle.plans.specs.Switches.{Off-switches}
+use Rattle.plans.specs.Switches.{On-switches, Off-switches}
+use Rattle.plans.specs.Versions.{tag-of, other}
+use Rattle.plans.proofs.Fences.{in-order}
 use Rattle.plans.proofs.Switches.{never-off}
 use Rattle.plans.proofs.plan.Plan.new.Needs as need
 
@@ -10,6 +14,19 @@ returns-in-Break-check-switches c =
     let f = c .in-Break-check-switches .field-0 .0 in
     let rows = c .args .configuration .rows .now in
     let why =
-      subst (λ n. Off-switches n rows f) (c .switches .ensures)
-      (subst (λ rows. Off-switches (c .switches .result) rows f) (c .rows .ensures) (c .in-Break-check-switches .ensures tt)) in
-    rw (p .1, p .2) record { value = why; granted = λ on. absurd (never-off _ rows f why on) }
+    subst (λ n. Off-switches n rows f) (c .switches .ensures)
+    (subst (λ rows. Off-switches (c .switches .result) rows f) (c .rows .ensures) (c .in-Break-check-switches .ensures tt)) in
+    rw (p .1, p .2) record { value = why; order = tt; granted = λ on. absurd (never-off _ rows f why on) }
+
+pub returns : need.returns
+returns c =
+    let t = c .args .topology .now in
+    let rows = c .args .configuration .rows .now in
+    let on =
+    subst (λ n. On-switches n rows (length rows)) (c .switches .ensures)
+    (subst (λ rows. On-switches (c .switches .result) rows (length rows)) (c .rows .ensures) (c .in-Continue-check-switches .ensures tt)) in
+    record {
+      value = search needs;
+      order = in-order (t .switches) (t .ports) rows (tag-of (c .args .in-force)) (tag-of (other (c .args .in-force))) on;
+      granted = search needs;
+    }

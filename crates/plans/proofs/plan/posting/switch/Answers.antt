@@ -1,14 +1,14 @@
-use mathlib.Core.Path.{_≡_, sym, ap, _∙_}
-use Prim.Native.Nat.{_<_, _≤_}
+use mathlib.Core.Path.{_≡_, sym, _∙_}
+use Prim.Native.Nat.{_≤_}
 use native.Mathlib.Omega.{arith}
 use lib.ListN.{length}
 use borrow.Author.Needs.{needs}
-use Rattle.std.proofs.shelf.Counted.{length-counting, getD-counting}
-use Rattle.std.proofs.shelf.Maps.{nth-getD, nth-past}
+use Rattle.std.proofs.shelf.Counted.{length-counting}
+use Rattle.std.proofs.shelf.Maps.{nth-past}
 use Rattle.std.specs.Iters.{counting}
 use Rattle.std.specs.Options.{mapped}
 use Rattle.std.specs.declared.option.Option.the-variants.{Some}
-use Rattle.std.specs.shelf.Maps.{nth}
+use Rattle.rules.proofs.Lists.{nth-counting}
 use Rattle.rules.specs.declared.switch.Switch.{Switch}
 use Rattle.plans.proofs.plan.posting.switch.Needs as need
 
@@ -23,8 +23,5 @@ returns c =
     let n = c .args .topology .now .switches in
     let k = c .args .number in
     let few = c .args .topology .now .few in
-    let below : k < n = omega arith in
-    let in-list : k < length (counting 0 n) = rw (length-counting 0 n) below in
-    let here : nth (counting 0 n) k ≡ Some k = nth-getD (counting 0 n) k 0 in-list ∙ ap Some (getD-counting 0 n k 0 below ∙ omega arith) in
     let made : mapped (λ (s : Switch). s .number) (c .new .result) ≡ Some k = search needs in
-    made ∙ sym here
+    made ∙ sym (nth-counting n k (omega arith))

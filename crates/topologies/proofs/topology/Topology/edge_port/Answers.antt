@@ -15,9 +15,9 @@ returns-then-left-eq0 c =
     let rest = from Edge (t .ports) (t .switches * 16) i in
     record {
       value = ap Some (c .spot-at .ensures)
-        ∙ sym (found Edge (t .ports) (t .switches * 16) i (omega arith) (sym (c .is-of .ensures) ∙ c .if-is-of .taken))
-        ∙ ap (nth rest) (sym (c .if-left-eq0 .taken)) ∙ c .loop-i .inv;
-      inside = rw (c .spot-at .ensures) (spot-within (t .switches) i (omega arith))
+          ∙ sym (found Edge (t .ports) (t .switches * 16) i (omega arith) (sym (c .is-of .ensures) ∙ c .if-is-of .taken))
+          ∙ ap (nth rest) (sym (c .if-left-eq0 .taken)) ∙ c .loop-i .inv;
+      inside = rw (c .spot-at .ensures) (spot-within (t .switches) i (omega arith));
     }
 
 pub loop-i-again : need.loop-i-again
@@ -27,6 +27,6 @@ loop-i-again c =
     let m = t .switches * 16 in
     let here : i < m = omega arith in
     elim (c .if-is-of .came) [
-      then-is-of·else-left-eq0 w ↦ ap (nth _) (w .left-is) ∙ sym (passed Edge (t .ports) m i (c .loop-i .left) here (omega (arith, w .if-left-eq0 .left)) (sym (c .is-of .ensures) ∙ w .if-is-of .taken)) ∙ c .loop-i .inv
+      | then-is-of·else-left-eq0 w ↦ ap (nth _) (w .left-is) ∙ sym (passed Edge (t .ports) m i (c .loop-i .left) here (omega (arith, w .if-left-eq0 .left)) (sym (c .is-of .ensures) ∙ w .if-is-of .taken)) ∙ c .loop-i .inv
       | else-is-of w ↦ ap (nth _) (w .left-is) ∙ sym (skipped Edge (t .ports) m i (c .loop-i .left) here (sym (c .is-of .ensures) ∙ w .if-is-of .left)) ∙ c .loop-i .inv
     ]

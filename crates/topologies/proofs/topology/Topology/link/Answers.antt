@@ -15,12 +15,19 @@ ghost-self c =
     let b = c .args .b in
     let i = c .index-of-i .result in
     let j = c .index-of-j .result in
-    let other : same a b ≡ false = search needs in
-    (t .few, (length-set _ j (Linked a) ∙ length-set (t .ports) i (Linked b) ∙ t .all,
-     (link-paired (t .switches) (t .ports) (t .few .1) (t .all) (t .paired) a b
-       (c .in-Continue-check-port .ensures tt .inside) (c .in-Continue-check-port-2 .ensures tt .inside)
-       (c .in-Continue-check-unused .ensures tt .unused) (c .in-Continue-check-unused-2 .ensures tt .unused)
-       other i j (c .index-of-i .ensures .place) (c .index-of-j .ensures .place), tt)))
+    let other : same a b ≡ false = search needs in (
+      t .few,
+      (
+        length-set _ j (Linked a) ∙ length-set (t .ports) i (Linked b) ∙ t .all,
+        (
+          link-paired (t .switches) (t .ports) (t .few .1) (t .all) (t .paired) a b
+              (c .in-Continue-check-port .ensures tt .inside) (c .in-Continue-check-port-2 .ensures tt .inside)
+              (c .in-Continue-check-unused .ensures tt .unused) (c .in-Continue-check-unused-2 .ensures tt .unused)
+              other i j (c .index-of-i .ensures .place) (c .index-of-j .ensures .place),
+          tt,
+        ),
+      ),
+    )
 
 pub returns : need.returns
 returns c =
@@ -34,6 +41,6 @@ returns c =
       refusal = search needs;
       after = search needs;
       uses = subst (λ j. Uses n (set (set ports (c .index-of-i .result) (Linked b)) j (Linked a)) (link-use ports a b)) (sym (c .index-of-j .ensures .place))
-        (subst (λ i. Uses n (set (set ports i (Linked b)) (index b) (Linked a)) (link-use ports a b)) (sym (c .index-of-i .ensures .place))
-        (link-uses n ports (t .few .1) (t .all) a b (c .in-Continue-check-port .ensures tt .inside) (c .in-Continue-check-port-2 .ensures tt .inside) other))
+          (subst (λ i. Uses n (set (set ports i (Linked b)) (index b) (Linked a)) (link-use ports a b)) (sym (c .index-of-i .ensures .place))
+          (link-uses n ports (t .few .1) (t .all) a b (c .in-Continue-check-port .ensures tt .inside) (c .in-Continue-check-port-2 .ensures tt .inside) other));
     }

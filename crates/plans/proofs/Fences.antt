@@ -1,0 +1,189 @@
+-- A series is in order: each kind of message has its part of the series, and barriers stand between the parts.
+use mathlib.Core.Path.{_≡_, refl, sym, ap, _∙_, subst}
+use mathlib.Core.List.{List, [], _∷_, _++_, map}
+use mathlib.Core.Logic.{_⊎_, inl, inr}
+use Prim.Native.Nat.{ℕ, _+_, _-_, _*_, _<_, _≤_}
+use native.Mathlib.Omega.{arith}
+use lib.ListN.{length, length-append}
+use Rattle.std.proofs.shelf.Elements.{all-append, all-map, all-kept-by, all-weaker}
+use Rattle.std.proofs.shelf.Lists.{append-assoc, append-nil}
+use Rattle.std.proofs.shelf.Tests.{cases-lt, ltb-true}
+use Rattle.std.specs.Iters.{counting}
+use Rattle.std.specs.declared.option.Option.the-variants.{Some}
+use Rattle.std.specs.Options.{mapped}
+use Rattle.std.specs.shelf.Lists.{All}
+use Rattle.std.specs.shelf.Maps.{nth}
+use Rattle.rules.proofs.Lists.{nth-map, nth-front, nth-back, nth-counting, nth-within, all-nth, all-any, all-from-nth, all-counting}
+use Rattle.rules.specs.declared.row.Row.{Row}
+use Rattle.topologies.proofs.Counts.{spot-within}
+use Rattle.topologies.proofs.Uses.{within-numbers}
+use Rattle.topologies.specs.Ports.{within, spot-at, spots, edge-ports}
+use Rattle.topologies.specs.declared.spot.PortUse.{PortUse}
+use Rattle.topologies.specs.declared.spot.Spot.{Spot}
+use Rattle.messages.specs.Lines.{kind-of}
+use Rattle.messages.specs.Sent.{Sent, add, stamp, remove, barrier, switch-of}
+use Rattle.messages.specs.declared.line.Kind.{Kind}
+use Rattle.messages.specs.declared.line.Kind.the-variants as kind
+use Rattle.plans.specs.Fences.{Stands, Barrier-between, Fenced, In-order}
+use Rattle.plans.specs.Series.{add-of, adds, barriers, removes, stamps, installing, flipping, collecting, series}
+use Rattle.plans.specs.Switches.{on-switch, On-switches}
+use Rattle.plans.proofs.Sizes.{length-barriers}
+
+barrier-at : (n s : ℕ) → s < n → nth (barriers n) s ≡ Some (barrier s)
+barrier-at n s h = nth-map barrier (counting 0 n) s ∙ ap (mapped barrier) (nth-counting n s h)
+
+-- No message of a list is of a kind; those of a kind go to switches below n.
+abbrev Free : Kind → Sent → Type 0
+Free k m = kind-of m ≡ k → ⊥
+
+abbrev Below : ℕ → Kind → Sent → Type 0
+Below n k m = kind-of m ≡ k → switch-of m < n
+
+-- A front with all messages of a kind, barriers to n switches, and the rest.
+module _ (front back : List Sent) (n : ℕ) (k : Kind) (low : All (Below n k) front) (rest : All (Free k) (barriers n ++ back)) where
+  abbrev whole : List Sent
+  whole = front ++ (barriers n ++ back)
+
+  -- Such a message lies in the front, and a barrier to its switch follows before the rest.
+  followed : (i : ℕ) (a : Sent) → Stands whole i k a → (j : ℕ) → length front + n ≤ j → Barrier-between whole i j a
+  followed i a st j after =
+      elim (cases-lt i (length front)) [
+        | inl h ↦
+            let s = switch-of a in
+            let below : s < n = all-nth (Below n k) front i a low (sym (nth-front front (barriers n ++ back) i h) ∙ st .here) (st .kind) in
+            let in-barriers : s < length (barriers n) = rw (length-barriers n) below in
+            let gap : (length front + s) - length front ≡ s = omega arith in
+            let at : nth whole (length front + s) ≡ Some (barrier s) =
+            nth-back front (barriers n ++ back) (length front + s) (omega arith)
+            ∙ ap (nth (barriers n ++ back)) gap ∙ nth-front (barriers n) back s in-barriers ∙ barrier-at n s below in
+            (length front + s, omega arith, omega arith, at)
+        | inr h ↦ absurd (all-nth (Free k) (barriers n ++ back) (i - length front) a rest (sym (nth-back front (barriers n ++ back) i h) ∙ st .here) (st .kind))
+      ]
+
+  fenced : (l : Kind) → All (Free l) (front ++ barriers n) → Fenced whole k l
+  fenced l early i j a b sa sb =
+      let long : length (front ++ barriers n) ≡ length front + n = length-append front (barriers n) ∙ ap (λ m. length front + m) (length-barriers n) in
+      elim (cases-lt j (length front + n)) [
+        | inl h ↦
+            let within-front : j < length (front ++ barriers n) = rw long h in
+            let here : nth (front ++ barriers n) j ≡ Some b = sym (nth-front (front ++ barriers n) back j within-front) ∙ ap (λ xs. nth xs j) (append-assoc front (barriers n) back) ∙ sb .here in
+            absurd (all-nth (Free l) (front ++ barriers n) j b early here (sb .kind))
+        | inr h ↦ followed i a sa j h
+      ]
+
+module _ (n : ℕ) (ports : List PortUse) (rules : List Row) (old new : ℕ) where
+  -- A list made from any other has no message of another kind.
+  none-made : {X : Type 0} (k : Kind) (f : X → Sent) → ((x : X) → Free k (f x)) → (xs : List X) → All (Free k) (map f xs)
+  none-made k f free xs = all-map (Free k) f xs (all-any (λ x. Free k (f x)) free xs)
+
+  low-made : {X : Type 0} (k : Kind) (f : X → Sent) → (xs : List X) → All (λ x. switch-of (f x) < n) xs → All (Below n k) (map f xs)
+  low-made k f xs low = all-map (Below n k) f xs (all-weaker (λ x. switch-of (f x) < n) (λ x. Below n k (f x)) (λ x h e. h) xs low)
+
+  free-adds : (k : Kind) → (kind.Add ≡ k → ⊥) → All (Free k) (adds n ports rules new)
+  free-adds k ne = none-made k (add-of n ports new) (λ r. ne) rules
+
+  free-stamps : (k : Kind) → (kind.Stamp ≡ k → ⊥) → All (Free k) (stamps n ports new)
+  free-stamps k ne = none-made k (λ (s : Spot). stamp (s .switch) (s .port) new) (λ s. ne) (edge-ports n ports)
+
+  free-removes : (k : Kind) → (kind.Remove ≡ k → ⊥) → All (Free k) (removes n old)
+  free-removes k ne = none-made k (λ s. remove s old) (λ s. ne) (counting 0 n)
+
+  free-barriers : (k : Kind) → (kind.Barrier ≡ k → ⊥) → All (Free k) (barriers n)
+  free-barriers k ne = none-made k barrier (λ s. ne) (counting 0 n)
+
+  -- What has no message of a kind has none of it that goes astray.
+  low-free : (k : Kind) (xs : List Sent) → All (Free k) xs → All (Below n k) xs
+  low-free k xs free = all-weaker (Free k) (Below n k) (λ m f e. absurd (f e)) xs free
+
+  low-adds : On-switches n rules (length rules) → All (Below n kind.Add) (adds n ports rules new)
+  low-adds on =
+      low-made kind.Add (add-of n ports new) rules
+      (all-from-nth (λ (r : Row). r .switch < n) rules (λ k r e. ltb-true (r .switch) n (ap (on-switch n) (sym e) ∙ on k (nth-within rules k r e))))
+
+  edges-within : All (λ (s : Spot). s .switch < n) (edge-ports n ports)
+  edges-within =
+      all-kept-by _ (λ (s : Spot). s .switch < n) (spots n)
+      (all-map (λ (s : Spot). s .switch < n) spot-at (counting 0 (n * 16))
+      (all-weaker (λ i. i < n * 16) (λ i. spot-at i .switch < n) (λ i h. omega arith) (counting 0 (n * 16)) (all-counting 0 (n * 16) (n * 16) (omega arith))))
+
+  low-stamps : All (Below n kind.Stamp) (stamps n ports new)
+  low-stamps = low-made kind.Stamp (λ (s : Spot). stamp (s .switch) (s .port) new) (edge-ports n ports) edges-within
+
+  low-removes : All (Below n kind.Remove) (removes n old)
+  low-removes = low-made kind.Remove (λ s. remove s old) (counting 0 n) (all-counting 0 n n (omega arith))
+
+  abbrev installs : List Sent
+  installs = installing n ports rules new
+
+  abbrev flips : List Sent
+  flips = flipping n ports new
+
+  abbrev collects : List Sent
+  collects = collecting n old
+
+  add-stamp : kind.Add ≡ kind.Stamp → ⊥
+  add-stamp e = let z : _≡_ {A = ℕ} 0 1 = cc in omega arith
+
+  add-remove : kind.Add ≡ kind.Remove → ⊥
+  add-remove e = let z : _≡_ {A = ℕ} 0 1 = cc in omega arith
+
+  stamp-remove : kind.Stamp ≡ kind.Remove → ⊥
+  stamp-remove e = let z : _≡_ {A = ℕ} 0 1 = cc in omega arith
+
+  barrier-add : kind.Barrier ≡ kind.Add → ⊥
+  barrier-add e = let z : _≡_ {A = ℕ} 0 1 = cc in omega arith
+
+  barrier-stamp : kind.Barrier ≡ kind.Stamp → ⊥
+  barrier-stamp e = let z : _≡_ {A = ℕ} 0 1 = cc in omega arith
+
+  barrier-remove : kind.Barrier ≡ kind.Remove → ⊥
+  barrier-remove e = let z : _≡_ {A = ℕ} 0 1 = cc in omega arith
+
+  free-installing : (k : Kind) → (kind.Add ≡ k → ⊥) → (kind.Barrier ≡ k → ⊥) → All (Free k) installs
+  free-installing k a b = all-append (Free k) (adds n ports rules new) (barriers n) (free-adds k a) (free-barriers k b)
+
+  free-flipping : (k : Kind) → (kind.Stamp ≡ k → ⊥) → (kind.Barrier ≡ k → ⊥) → All (Free k) flips
+  free-flipping k s b = all-append (Free k) (stamps n ports new) (barriers n) (free-stamps k s) (free-barriers k b)
+
+  free-collecting : (k : Kind) → (kind.Remove ≡ k → ⊥) → (kind.Barrier ≡ k → ⊥) → All (Free k) collects
+  free-collecting k r b = all-append (Free k) (removes n old) (barriers n) (free-removes k r) (free-barriers k b)
+
+  adds-stamps : On-switches n rules (length rules) → Fenced (series n ports rules old new) kind.Add kind.Stamp
+  adds-stamps on =
+      let later = all-append (Free kind.Add) flips collects (free-flipping kind.Add (λ e. add-stamp (sym e)) barrier-add) (free-collecting kind.Add (λ e. add-remove (sym e)) barrier-add) in
+      subst (λ xs. Fenced xs kind.Add kind.Stamp) (sym (append-assoc (adds n ports rules new) (barriers n) (flips ++ collects)))
+      (fenced (adds n ports rules new) (flips ++ collects) n kind.Add (low-adds on)
+      (all-append (Free kind.Add) (barriers n) (flips ++ collects) (free-barriers kind.Add barrier-add) later)
+      kind.Stamp (free-installing kind.Stamp add-stamp barrier-stamp))
+
+  stamps-removes : Fenced (series n ports rules old new) kind.Stamp kind.Remove
+  stamps-removes =
+      let front = installs ++ stamps n ports new in
+      let parts : front ++ (barriers n ++ collects) ≡ series n ports rules old new =
+      append-assoc installs (stamps n ports new) (barriers n ++ collects) ∙ ap (λ xs. installs ++ xs) (sym (append-assoc (stamps n ports new) (barriers n) collects)) in
+      let low = all-append (Below n kind.Stamp) installs (stamps n ports new) (low-free kind.Stamp installs (free-installing kind.Stamp add-stamp barrier-stamp)) low-stamps in
+      let early = all-append (Free kind.Remove) front (barriers n)
+      (all-append (Free kind.Remove) installs (stamps n ports new) (free-installing kind.Remove add-remove barrier-remove) (free-stamps kind.Remove stamp-remove))
+      (free-barriers kind.Remove barrier-remove) in
+      subst (λ xs. Fenced xs kind.Stamp kind.Remove) parts
+      (fenced front collects n kind.Stamp low
+      (all-append (Free kind.Stamp) (barriers n) collects (free-barriers kind.Stamp barrier-stamp) (free-collecting kind.Stamp (λ e. stamp-remove (sym e)) barrier-stamp))
+      kind.Remove early)
+
+  abbrev Ends : List Sent → Type 0
+  Ends xs = (i : ℕ) (a : Sent) → Stands xs i kind.Remove a → Barrier-between xs i (length xs) a
+
+  removes-end : Ends (series n ports rules old new)
+  removes-end =
+      let front = installs ++ (flips ++ removes n old) in
+      let parts : front ++ (barriers n ++ []) ≡ series n ports rules old new =
+      append-assoc installs (flips ++ removes n old) (barriers n ++ [])
+      ∙ ap (λ xs. installs ++ xs) (append-assoc flips (removes n old) (barriers n ++ []) ∙ ap (λ xs. flips ++ (removes n old ++ xs)) (append-nil (barriers n))) in
+      let low = all-append (Below n kind.Remove) installs (flips ++ removes n old) (low-free kind.Remove installs (free-installing kind.Remove add-remove barrier-remove))
+      (all-append (Below n kind.Remove) flips (removes n old) (low-free kind.Remove flips (free-flipping kind.Remove stamp-remove barrier-remove)) low-removes) in
+      let rest = all-append (Free kind.Remove) (barriers n) [] (free-barriers kind.Remove barrier-remove) tt in
+      let long : length (front ++ (barriers n ++ [])) ≡ length front + n = length-append front (barriers n ++ []) ∙ ap (λ m. length front + m) (ap length (append-nil (barriers n)) ∙ length-barriers n) in
+      subst Ends parts (λ i a st. followed front [] n kind.Remove low rest i a st (length (front ++ (barriers n ++ []))) (omega arith))
+
+  pub in-order : On-switches n rules (length rules) → In-order (series n ports rules old new)
+  in-order on = record { adds-then-stamps = adds-stamps on; stamps-then-removes = stamps-removes; removes-then-end = removes-end }
