@@ -3,7 +3,7 @@ use mathlib.Core.Path.{_≡_, refl, sym, ap, _∙_}
 use mathlib.Core.Bool.{Bool, true, false, _&&_, cond}
 use Prim.Native.Nat.{ℕ, _+_, _-_, _/_, _^_, _≤_, _<_}
 use native.Mathlib.Omega.{arith}
-use lib.Dec.{eqb, leb}
+use lib.Dec.{leb}
 use Rattle.std.proofs.shelf.Tests.{eq-eqb, eqb-true, eqb-false, leb-true, leb-false, false≢true, and-from}
 use Rattle.std.proofs.shelf.Bits.{shr-shr}
 use Rattle.std.specs.Options.{isSome}

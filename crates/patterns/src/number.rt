@@ -1,4 +1,3 @@
-ghost use mathlib.Core.Path.{_≡_};
 ghost use Rattle.patterns.specs.Numbers.{admits-number, meet-number, fixed-fits};
 use crate::field::Field;
 use crate::pattern::Pattern;

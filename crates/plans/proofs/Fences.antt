@@ -1,7 +1,7 @@
 -- A series is in order: each kind of message has its part of the series, and barriers stand between the parts.
-use mathlib.Core.Path.{_≡_, refl, sym, ap, _∙_, subst}
-use mathlib.Core.List.{List, [], _∷_, _++_, map}
-use mathlib.Core.Logic.{_⊎_, inl, inr}
+use mathlib.Core.Path.{_≡_, sym, ap, _∙_, subst}
+use mathlib.Core.List.{List, [], _++_, map}
+use mathlib.Core.Logic.{inl, inr}
 use Prim.Native.Nat.{ℕ, _+_, _-_, _*_, _<_, _≤_}
 use native.Mathlib.Omega.{arith}
 use lib.ListN.{length, length-append}
@@ -15,13 +15,12 @@ use Rattle.std.specs.shelf.Lists.{All}
 use Rattle.std.specs.shelf.Maps.{nth}
 use Rattle.rules.proofs.Lists.{nth-map, nth-front, nth-back, nth-counting, nth-within, all-nth, all-any, all-from-nth, all-counting}
 use Rattle.rules.specs.declared.row.Row.{Row}
-use Rattle.topologies.proofs.Counts.{spot-within}
-use Rattle.topologies.proofs.Uses.{within-numbers}
-use Rattle.topologies.specs.Ports.{within, spot-at, spots, edge-ports}
+use Rattle.topologies.proofs.Spots.{spots-flat}
+use Rattle.topologies.specs.Ports.{spot-at, spots, edge-ports}
 use Rattle.topologies.specs.declared.spot.PortUse.{PortUse}
 use Rattle.topologies.specs.declared.spot.Spot.{Spot}
 use Rattle.messages.specs.Lines.{kind-of}
-use Rattle.messages.specs.Sent.{Sent, add, stamp, remove, barrier, switch-of}
+use Rattle.messages.specs.Sent.{Sent, stamp, remove, barrier, switch-of}
 use Rattle.messages.specs.declared.line.Kind.{Kind}
 use Rattle.messages.specs.declared.line.Kind.the-variants as kind
 use Rattle.plans.specs.Fences.{Stands, Barrier-between, Fenced, In-order}
@@ -102,9 +101,9 @@ module _ (n : ℕ) (ports : List PortUse) (rules : List Row) (old new : ℕ) whe
 
   edges-within : All (λ (s : Spot). s .switch < n) (edge-ports n ports)
   edges-within =
-      all-kept-by _ (λ (s : Spot). s .switch < n) (spots n)
-      (all-map (λ (s : Spot). s .switch < n) spot-at (counting 0 (n * 16))
-      (all-weaker (λ i. i < n * 16) (λ i. spot-at i .switch < n) (λ i h. omega arith) (counting 0 (n * 16)) (all-counting 0 (n * 16) (n * 16) (omega arith))))
+      let flat = all-map (λ (s : Spot). s .switch < n) spot-at (counting 0 (n * 16))
+      (all-weaker (λ i. i < n * 16) (λ i. spot-at i .switch < n) (λ i h. omega arith) (counting 0 (n * 16)) (all-counting 0 (n * 16) (n * 16) (omega arith))) in
+      all-kept-by _ (λ (s : Spot). s .switch < n) (spots n) (subst (All (λ (s : Spot). s .switch < n)) (sym (spots-flat n)) flat)
 
   low-stamps : All (Below n kind.Stamp) (stamps n ports new)
   low-stamps = low-made kind.Stamp (λ (s : Spot). stamp (s .switch) (s .port) new) (edge-ports n ports) edges-within

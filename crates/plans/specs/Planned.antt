@@ -1,5 +1,5 @@
 -- The series of a plan, whole and by stages.
-use mathlib.Core.List.{List, _++_}
+use mathlib.Core.List.{List}
 use Prim.Native.Nat.{ℕ}
 use Rattle.messages.specs.Sent.{Sent}
 use Rattle.rules.specs.declared.row.Row.{Row}

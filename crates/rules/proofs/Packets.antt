@@ -1,5 +1,5 @@
 -- What rule patterns admit, as laws on packets.
-use mathlib.Core.Path.{_≡_, refl, sym, ap, _∙_, subst}
+use mathlib.Core.Path.{_≡_, refl, sym, _∙_}
 use mathlib.Core.Bool.{Bool, true, false, _&&_}
 use Prim.Native.Nat.{ℕ, _^_, _<_, _≤_}
 use lib.Dec.{eqb}
@@ -10,8 +10,7 @@ use Rattle.patterns.specs.declared.number.Number.{Number}
 use Rattle.patterns.specs.declared.number.Number.the-variants.{Open, Fixed}
 use Rattle.patterns.specs.declared.port.Port.{Port}
 use Rattle.rules.specs.declared.header.Header.{Header}
-use Rattle.rules.specs.declared.row.PatternRow.{PatternRow}
-use Rattle.rules.specs.Admits.{in-block, admits, Packet, Meeting}
+use Rattle.rules.specs.Admits.{in-block, admits, Meeting}
 use Rattle.rules.specs.Written.{RulePattern, port-numbers, block-of, numbers-of}
 
 abbrev same-port : Port → Port → Bool

@@ -1,9 +1,8 @@
 -- Which packets the numbers of a rule pattern admit, and when two of them meet. A packet is its in-port and its header.
 use mathlib.Core.Path.{_≡_}
-use mathlib.Core.Bool.{Bool, true, _&&_, cond}
+use mathlib.Core.Bool.{Bool, true, _&&_}
 use Prim.Native.Nat.{ℕ, _^_, _<_, _≤_}
-use lib.Dec.{eqb, leb}
-use Rattle.patterns.specs.declared.number.Number.{Number}
+use lib.Dec.{eqb}
 use Rattle.patterns.specs.Numbers.{admits-number}
 use Rattle.patterns.specs.Prefixes.{same-start}
 use Rattle.rules.specs.declared.header.Header.{Header}

@@ -1,3 +1,4 @@
 pub mod Uses
 pub mod Links
 pub mod Counts
+pub mod Spots

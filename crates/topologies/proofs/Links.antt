@@ -1,9 +1,9 @@
 -- Links stay mutual where ports that were unused become edge ports or the two ends of a link.
 use mathlib.Core.Path.{_≡_, refl, sym, ap, _∙_, subst}
-use mathlib.Core.Bool.{Bool, true, false, not, _&&_}
+use mathlib.Core.Bool.{true, false, not, _&&_}
 use mathlib.Core.List.{List}
-use mathlib.Core.Logic.{_⊎_, inl, inr}
-use Prim.Native.Nat.{ℕ, _<_, _≤_}
+use mathlib.Core.Logic.{inl, inr}
+use Prim.Native.Nat.{ℕ, _≤_}
 use lib.ListN.{length, set, length-set}
 use Rattle.std.proofs.shelf.Tests.{and-parts, and-from, not-from-false, cond-true, cond-false, cases-bool, true≢false, false≢true}
 use Rattle.topologies.specs.declared.spot.Spot.{Spot}

@@ -1,9 +1,9 @@
 -- What a port is used for after a write at another port, or at itself.
 use mathlib.Core.Path.{_≡_, refl, sym, ap, _∙_}
-use mathlib.Core.Bool.{Bool, true, false, _&&_}
+use mathlib.Core.Bool.{true, false, _&&_}
 use mathlib.Core.List.{List}
-use mathlib.Core.Logic.{_≢_, _⊎_, inl, inr}
-use Prim.Native.Nat.{ℕ, zero, suc, _+_, _-_, _*_, _<_, _≤_}
+use mathlib.Core.Logic.{_≢_, inl, inr}
+use Prim.Native.Nat.{ℕ, zero, suc, _-_, _<_, _≤_}
 use native.Mathlib.Omega.{arith}
 use lib.Dec.{eqb, leb, ltb}
 use lib.ListN.{length, getD, set, replicate}
@@ -11,8 +11,8 @@ use lib.Seq.{getD-set-same, getD-set-other}
 use Rattle.std.proofs.shelf.Tests.{eqb-true, eq-eqb, ltb-true, leb-true, and-parts, and-from, cases-bool, true≢false}
 use Rattle.topologies.specs.declared.spot.Spot.{Spot}
 use Rattle.topologies.specs.declared.spot.PortUse.{PortUse}
-use Rattle.topologies.specs.declared.spot.PortUse.the-variants.{Unused, Edge, Linked}
-use Rattle.topologies.specs.Ports.{same, within, index, use-of, is-unused}
+use Rattle.topologies.specs.declared.spot.PortUse.the-variants.{Unused}
+use Rattle.topologies.specs.Ports.{same, within, index, use-of}
 
 pub same-self : (s : Spot) → same s s ≡ true
 same-self s = and-from _ _ (eq-eqb (s .switch) (s .switch) refl) (eq-eqb (s .port) (s .port) refl)

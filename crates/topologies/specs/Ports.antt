@@ -6,6 +6,7 @@ use Prim.Native.Nat.{ℕ, _+_, _-_, _*_, _/_, _%_}
 use lib.Dec.{eqb, leb, ltb}
 use lib.ListN.{length, getD}
 use Rattle.std.specs.Iters.{counting}
+use Rattle.std.specs.Joined.{joined}
 use Rattle.std.specs.shelf.Lists.{kept-by}
 use Rattle.topologies.specs.declared.spot.Spot.{Spot}
 use Rattle.topologies.specs.declared.spot.PortKind.{PortKind}
@@ -23,6 +24,10 @@ within n s = ltb (s .switch) n && (leb 1 (s .port) && leb (s .port) 16)
 -- The ports lie in one list, 16 to a switch, by switch and port.
 abbrev pub index : Spot → ℕ
 index s = s .switch * 16 + (s .port - 1)
+
+-- The port whose use lies at a place of that list.
+abbrev pub spot-at : ℕ → Spot
+spot-at i = record { switch = i / 16; port = i % 16 + 1 }
 
 abbrev pub use-of : List PortUse → Spot → PortUse
 use-of ports s = getD ports (index s) Unused
@@ -54,12 +59,9 @@ links-back n ports s (Linked o) = within n o && (not (same o s) && is-linked-wit
 abbrev pub Paired : ℕ → List PortUse → Type 0
 Paired n ports = (s : Spot) → within n s ≡ true → links-back n ports s (use-of ports s) ≡ true
 
--- All ports of n switches, by switch and port.
-abbrev pub spot-at : ℕ → Spot
-spot-at i = record { switch = i / 16; port = i % 16 + 1 }
-
+-- All ports of n switches: for each switch in rising order its ports 1 to 16.
 abbrev pub spots : ℕ → List Spot
-spots n = map spot-at (counting 0 (n * 16))
+spots n = joined (λ s. map (λ p. record { switch = s; port = p }) (counting 1 16)) (counting 0 n)
 
 -- The ports of one kind, by switch and port.
 abbrev pub ports-of : PortKind → ℕ → List PortUse → List Spot

@@ -7,7 +7,7 @@ ghost use Rattle.std.specs.Options.{mapped};
 ghost use Rattle.std.specs.Results.{Cases, isOk};
 ghost use Rattle.std.specs.shelf.Maps.{nth};
 ghost use Rattle.rules.specs.declared.rule.Rule.{Rule};
-ghost use Rattle.configurations.specs.Settings.{Make-before, Clear-before, Clear-of, Clash-at, Stands, Sound, Refused};
+ghost use Rattle.configurations.specs.Settings.{Make-before, Clear-before, Clear-of, Stands, Sound, Refused};
 use crate::configuration::Configuration;
 use crate::fault::ConfigurationFault;
 use rules::row::Row;

@@ -1,9 +1,8 @@
 ghost use mathlib.Core.Path.{_≡_};
-ghost use mathlib.Core.Bool.{true, false};
-ghost use Prim.Native.Nat.{_-_, _^_, _%_, _<_, _≤_};
+ghost use Prim.Native.Nat.{_-_, _%_, _<_, _≤_};
 ghost use Rattle.std.specs.Results.{errPart};
 ghost use Rattle.std.specs.Vec.{made};
-ghost use Rattle.rules.specs.Limits.{row-fault, switch-fault, in-port-fault, length-fault, bits-fault, has-ports, transport-fault, out-port-fault};
+ghost use Rattle.rules.specs.Limits.{row-fault, switch-fault, in-port-fault, length-fault, bits-fault, transport-fault, out-port-fault};
 use crate::fault::RuleFault;
 use crate::row::Action;
 use crate::row::Block;

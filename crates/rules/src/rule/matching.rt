@@ -1,6 +1,6 @@
 ghost use mathlib.Core.Path.{_≡_};
-ghost use mathlib.Core.Bool.{true, false};
-ghost use Prim.Native.Nat.{_≤_, _^_, _%_, _-_};
+ghost use mathlib.Core.Bool.{false};
+ghost use Prim.Native.Nat.{_-_};
 ghost use Rattle.std.specs.Options.{isSome};
 ghost use Rattle.std.specs.Orderings.{When};
 ghost use Rattle.rules.specs.Limits.{in-port-fault, length-fault, bits-fault};

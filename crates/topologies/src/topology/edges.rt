@@ -4,7 +4,7 @@ ghost use Prim.Native.Nat.{_<_, _≤_, _*_, _/_};
 ghost use lib.ListN.{length};
 ghost use Rattle.std.specs.Slices.{found};
 ghost use Rattle.std.specs.shelf.Maps.{nth};
-ghost use Rattle.topologies.specs.Ports.{within, use-of, spot-at, is-of, ports-of, edge-ports, link-count};
+ghost use Rattle.topologies.specs.Ports.{within, spot-at, is-of, ports-of, edge-ports, link-count};
 use crate::spot::PortKind;
 use crate::spot::PortUse;
 use crate::spot::Spot;

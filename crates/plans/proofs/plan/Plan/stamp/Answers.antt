@@ -1,7 +1,6 @@
-use mathlib.Core.Path.{_≡_, sym, ap, _∙_}
+use mathlib.Core.Path.{_≡_, ap, _∙_}
 use Prim.Native.Nat.{ℕ}
 use borrow.Author.Needs.{needs}
-use Rattle.std.specs.declared.option.Option.the-variants.{Some}
 use Rattle.topologies.proofs.Uses.{within-numbers}
 use Rattle.topologies.specs.Ports.{edge-ports}
 use Rattle.topologies.specs.declared.spot.Spot.{Spot}

@@ -1,7 +1,13 @@
-use mathlib.Core.Path.{sym, _∙_}
+use mathlib.Core.Path.{_≡_, sym, ap, _∙_}
 use mathlib.Core.Bool.{true, false}
+use mathlib.Core.List.{map}
+use Prim.Native.Nat.{_*_}
 use native.Mathlib.Omega.{arith}
-use Rattle.topologies.proofs.Counts.{count-more}
+use lib.ListN.{length}
+use Rattle.std.specs.Iters.{counting}
+use Rattle.topologies.specs.Ports.{spot-at}
+use Rattle.topologies.proofs.Counts.{count-more, kept}
+use Rattle.topologies.proofs.Spots.{spots-flat}
 use Rattle.topologies.proofs.topology.Topology.count.Needs as need
 use Rattle.topologies.proofs.topology.Topology.count.Needs.{then-is-of, else-is-of}
 
@@ -13,3 +19,13 @@ loop-i-again c =
       | then-is-of w ↦ (w .count-is ∙ more true (sym (c .is-of .ensures) ∙ w .if-is-of .taken) (inv .0), omega (arith, w .count-is))
       | else-is-of w ↦ (w .count-is ∙ more false (sym (c .is-of .ensures) ∙ w .if-is-of .left) (inv .0), omega (arith, w .count-is))
     ]
+
+pub returns : need.returns
+returns c =
+    let t = c .args .self .now in
+    let all : c .loop-i .i ≡ t .switches * 16 = omega arith in
+    let listed = kept (c .args .kind) (t .ports) in
+    record {
+      value = c .loop-i .inv .0 ∙ ap (λ i. length (listed (map spot-at (counting 0 i)))) all ∙ ap (λ xs. length (listed xs)) (sym (spots-flat (t .switches)));
+      bound = let few = t .few in omega (arith, c .loop-i .inv .1);
+    }

@@ -1,12 +1,24 @@
 use mathlib.Core.Path.{_≡_, sym, ap, _∙_}
-use Prim.Native.Nat.{_*_, _<_}
+use mathlib.Core.List.{List, map}
+use Prim.Native.Nat.{_*_, _-_, _<_}
 use native.Mathlib.Omega.{arith}
 use Rattle.std.specs.declared.option.Option.the-variants.{Some}
 use Rattle.std.specs.shelf.Maps.{nth}
 use Rattle.topologies.specs.declared.spot.PortKind.the-variants.{Edge}
-use Rattle.topologies.proofs.Counts.{spot-within, from, found, skipped, passed}
+use Rattle.std.specs.Iters.{counting}
+use Rattle.topologies.specs.Ports.{spot-at}
+use Rattle.topologies.specs.declared.spot.Spot.{Spot}
+use Rattle.topologies.proofs.Spots.{spots-flat}
+use Rattle.topologies.proofs.Counts.{spot-within, kept, from, found, skipped, passed}
 use Rattle.topologies.proofs.topology.Topology.edge_port.Needs as need
 use Rattle.topologies.proofs.topology.Topology.edge_port.Needs.{then-is-of·else-left-eq0, else-is-of}
+
+pub loop-i-holds : need.loop-i-holds
+loop-i-holds c =
+    let t = c .args .self .now in
+    let all : t .switches * 16 - 0 ≡ t .switches * 16 = omega arith in
+    let at = λ (xs : List Spot). nth (kept Edge (t .ports) xs) (c .args .place) in
+    ap (λ n. at (map spot-at (counting 0 n))) all ∙ ap at (sym (spots-flat (t .switches)))
 
 pub returns-then-left-eq0 : need.returns-then-left-eq0
 returns-then-left-eq0 c =
