@@ -3,48 +3,21 @@ use configurations::configuration::Configuration;
 use example::site;
 use messages::line::LineDisplay;
 use plans::plan::Plan;
+use plans::plan::heading::HeadingDisplay;
+use plans::plan::sum::SumDisplay;
 use plans::version::Version;
 use std::io;
-use topologies::topology::Topology;
 
-fn heading(
-    rt: &impl Print,
-    topology: &Topology,
-    plan: &Plan<'_>,
-    in_force: Version,
-) -> io::Result<()> {
-    let switches = topology.switches();
-    let edge_ports = topology.edge_count();
-    let links = topology.link_count();
-    let rules = plan.sum().rules;
-    let old = in_force.tag().number();
-    let new = in_force.other().tag().number();
-    println!(
-        rt,
-        "switches {switches}, edge ports {edge_ports}, links {links}, rules {rules}, tag {old} to tag {new}"
-    )
-}
-
-fn listing(rt: &impl Print, plan: &Plan<'_>) -> io::Result<()> {
-    println!(rt, "xid switch message tag port bytes")?;
-    for xid in 1..=plan.sum().total {
+fn report(rt: &impl Print, plan: &Plan<'_>) -> io::Result<()> {
+    let sum = plan.sum();
+    rt.println(plan.heading())?;
+    rt.println("xid switch message tag port bytes")?;
+    for xid in 1..=sum.total {
         if let Some(line) = plan.line(xid) {
-            println!(rt, "{line}")?;
+            rt.println(line)?;
         }
     }
-    Ok(())
-}
-
-fn sum(rt: &impl Print, plan: &Plan<'_>) -> io::Result<()> {
-    let sum = plan.sum();
-    let total = sum.total;
-    let rules = sum.rules;
-    let edge_ports = sum.edge_ports;
-    let switch_messages = sum.switch_messages;
-    println!(
-        rt,
-        "sum {total}: {rules} for rules, {edge_ports} for edge ports, {switch_messages} for switches"
-    )
+    rt.println(sum)
 }
 
 fn refused(rt: &impl Print, number: u8) -> io::Result<()> {
@@ -61,13 +34,8 @@ fn main(rt: LibcRuntime) -> io::Result<()> {
     if let Err(fault) = configuration.set(&rows) {
         return refused(&rt, fault.number());
     }
-    let in_force = Version::First;
-    match Plan::new(&topology, configuration, in_force) {
-        Ok(plan) => {
-            heading(&rt, &topology, &plan, in_force)?;
-            listing(&rt, &plan)?;
-            sum(&rt, &plan)
-        }
+    match Plan::new(&topology, configuration, Version::First) {
+        Ok(plan) => report(&rt, &plan),
         Err(fault) => refused(&rt, fault.number()),
     }
 }

@@ -10,7 +10,7 @@ use rules::rule::Rule;
 use rules::tag::Tag;
 use std::test::*;
 
-fn row(switch: u8, pattern: PatternRow, action: Action<u8>) -> Row {
+fn row(switch: u8, pattern: PatternRow, action: Action) -> Row {
     Row {
         switch,
         priority: 10,

@@ -10,9 +10,9 @@ pub enum ConfigurationFault {
     // The number of rows.
     TooMany(usize),
     // The lowest place whose row makes no rule, and why.
-    Row(usize, RuleFault),
+    Row { place: usize, fault: RuleFault },
     // The lowest place whose rule clashes with an earlier one, and the lowest place of such an earlier one.
-    Clash(usize, usize),
+    Clash { later: usize, earlier: usize },
 }
 
 impl ConfigurationFault {
@@ -22,8 +22,8 @@ impl ConfigurationFault {
     {
         match self {
             ConfigurationFault::TooMany(_) => 31,
-            ConfigurationFault::Row(_, fault) => fault.number(),
-            ConfigurationFault::Clash(_, _) => 32,
+            ConfigurationFault::Row { fault, .. } => fault.number(),
+            ConfigurationFault::Clash { .. } => 32,
         }
     }
 }

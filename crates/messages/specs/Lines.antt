@@ -19,7 +19,7 @@ tag-of (stamp s p t) = t
 tag-of (remove s t) = t
 tag-of (barrier s) = 0
 
-abbrev pub out-port : Action ℕ → ℕ
+abbrev pub out-port : Action → ℕ
 out-port Drop = 0
 out-port (Out p) = p
 

@@ -1,9 +1,8 @@
 -- Which actions can carry a strip mark.
 use mathlib.Core.Bool.{Bool, true, false}
-use Prim.Native.Nat.{ℕ}
 use Rattle.rules.specs.declared.row.Action.{Action}
 use Rattle.rules.specs.declared.row.Action.the-variants.{Drop, Out}
 
-abbrev pub goes-out : Action ℕ → Bool
+abbrev pub goes-out : Action → Bool
 goes-out Drop = false
 goes-out (Out p) = true

@@ -31,7 +31,7 @@ switch-of (remove s t) = s
 switch-of (barrier s) = s
 
 -- An action takes 8 bytes, and a strip mark is one more.
-abbrev pub actions-length : Action ℕ → Bool → ℕ
+abbrev pub actions-length : Action → Bool → ℕ
 actions-length Drop m = 0
 actions-length (Out p) m = cond m 16 8
 

@@ -38,13 +38,13 @@ impl Line {
                 };
                 (Kind::Add, add.tag().number(), port)
             }
-            Message::Stamp(_, port, tag) => (Kind::Stamp, tag.number(), port.number()),
-            Message::Remove(_, tag) => (Kind::Remove, tag.number(), 0),
-            Message::Barrier(_) => (Kind::Barrier, 0, 0),
+            Message::Stamp { port, tag, .. } => (Kind::Stamp, tag.number(), port.number()),
+            Message::Remove { tag, .. } => (Kind::Remove, tag.number(), 0),
+            Message::Barrier { .. } => (Kind::Barrier, 0, 0),
         };
         Line {
             xid,
-            switch: message.switch(),
+            switch: message.switch().number(),
             kind,
             tag,
             port,

@@ -19,23 +19,32 @@ use rules::tag::TagPartialEq;
 pub enum Message {
     Add(Add),
     // An edge port, and the tag with which it stamps packets from then on.
-    Stamp(Switch, Port, Tag),
+    Stamp {
+        switch: Switch,
+        port: Port,
+        tag: Tag,
+    },
     // All rules of the switch under the tag.
-    Remove(Switch, Tag),
+    Remove {
+        switch: Switch,
+        tag: Tag,
+    },
     // Answered once all earlier messages are carried out.
-    Barrier(Switch),
+    Barrier {
+        switch: Switch,
+    },
 }
 
 impl Message {
     // The switch that it goes to.
-    pub fn switch(self) -> u8
-        ensures { λ r. ⌜ r ≡ switch-of (sent self) ⌝ }
+    pub fn switch(self) -> Switch
+        ensures { λ r. ⌜ r .number ≡ switch-of (sent self) ⌝ }
     {
         match self {
-            Message::Add(add) => add.rule().row().switch,
-            Message::Stamp(switch, _, _) => switch.number(),
-            Message::Remove(switch, _) => switch.number(),
-            Message::Barrier(switch) => switch.number(),
+            Message::Add(add) => add.rule().switch(),
+            Message::Stamp { switch, .. } => switch,
+            Message::Remove { switch, .. } => switch,
+            Message::Barrier { switch } => switch,
         }
     }
 
@@ -48,9 +57,9 @@ impl Message {
                 Action::Drop => 72,
                 Action::Out(_) => { if add.strip() { 88 } else { 80 } }
             },
-            Message::Stamp(_, _, _) => 80,
-            Message::Remove(_, _) => 72,
-            Message::Barrier(_) => 8,
+            Message::Stamp { .. } => 80,
+            Message::Remove { .. } => 72,
+            Message::Barrier { .. } => 8,
         }
     }
 }

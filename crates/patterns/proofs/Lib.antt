@@ -1,2 +1,3 @@
 pub mod Tests
 pub mod Starts
+pub mod Lists

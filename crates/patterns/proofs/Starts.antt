@@ -1,6 +1,6 @@
 -- Prefixes: the longer of two that begin alike is their meet, and two that do not begin alike have none.
 use mathlib.Core.Path.{_≡_, refl, sym, ap, _∙_}
-use mathlib.Core.Bool.{Bool, true, false, _&&_, cond}
+use mathlib.Core.Bool.{Bool, true, false, _&&_, cond, and-comm}
 use Prim.Native.Nat.{ℕ, _+_, _-_, _/_, _^_, _≤_, _<_}
 use native.Mathlib.Omega.{arith}
 use lib.Dec.{leb}
@@ -10,7 +10,7 @@ use Rattle.std.specs.Options.{isSome}
 use Rattle.std.specs.declared.option.Option.the-variants.{Some, None}
 use Rattle.patterns.specs.Meets.{Meet}
 use Rattle.patterns.specs.Prefixes.{same-start, meet-by}
-use Rattle.patterns.proofs.Tests.{and-implied, and-never, and-swap}
+use Rattle.patterns.proofs.Tests.{and-implied, and-never}
 
 -- Equal first bits are equal at any shorter length.
 shorter : (k l a x : ℕ) → k ≤ l → l ≤ 32 → a / 2 ^ (32 - l) ≡ x / 2 ^ (32 - l) → a / 2 ^ (32 - k) ≡ x / 2 ^ (32 - k)
@@ -32,8 +32,8 @@ module _ {P : Type 0} (length : P → ℕ) (address : P → ℕ) where
   meet-tests : (a b : P) → length a ≤ 32 → length b ≤ 32 → (s t u : Bool) → leb (length a) (length b) ≡ s → admits a (address b) ≡ t → admits b (address a) ≡ u → Meet admits a b (cond s (cond t (Some b) None) (cond u (Some a) None))
   meet-tests a b ha hb true true u e f g = λ x. inside (length a) (length b) (address a) (address b) x (leb-true _ _ e) hb f
   meet-tests a b ha hb true false u e f g = λ x. outside (length a) (length b) (address a) (address b) x (leb-true _ _ e) hb f
-  meet-tests a b ha hb false t true e f g = λ x. inside (length b) (length a) (address b) (address a) x (let h = leb-false _ _ e in omega arith) ha g ∙ and-swap (admits b x) (admits a x)
-  meet-tests a b ha hb false t false e f g = λ x. and-swap (admits a x) (admits b x) ∙ outside (length b) (length a) (address b) (address a) x (let h = leb-false _ _ e in omega arith) ha g
+  meet-tests a b ha hb false t true e f g = λ x. inside (length b) (length a) (address b) (address a) x (let h = leb-false _ _ e in omega arith) ha g ∙ and-comm (admits b x) (admits a x)
+  meet-tests a b ha hb false t false e f g = λ x. and-comm (admits a x) (admits b x) ∙ outside (length b) (length a) (address b) (address a) x (let h = leb-false _ _ e in omega arith) ha g
 
   pub meet-exact : (a b : P) → length a ≤ 32 → length b ≤ 32 → Meet admits a b (meet-by length address a b)
   meet-exact a b ha hb = meet-tests a b ha hb _ _ _ refl refl refl

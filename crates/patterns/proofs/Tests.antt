@@ -17,12 +17,6 @@ and-never true true h = absurd (h refl refl)
 and-never true false h = refl
 and-never false q h = refl
 
-pub and-swap : (p q : Bool) → (p && q) ≡ (q && p)
-and-swap true true = refl
-and-swap true false = refl
-and-swap false true = refl
-and-swap false false = refl
-
 -- Tests on two pairs: by pair, or by half.
 pub and-halves : (p q r s : Bool) → (p && q) ≡ true → (r && s) ≡ true → ((p && r) && (q && s)) ≡ true
 and-halves p q r s e f =

@@ -1,3 +1,4 @@
+pub mod Limits
 pub mod Meets
 pub mod Numbers
 pub mod Prefixes

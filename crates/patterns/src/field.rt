@@ -15,7 +15,7 @@ pub trait Field: Copy {
 
     law reflexive: { (a : Self) → same a a ≡ true };
 
-    law alike: { (a b x : Self) → same a b ≡ true → same a x ≡ same b x };
+    law identical: { (a b : Self) → same a b ≡ true → a ≡ b };
 
     law held: { fits sample };
 
@@ -43,7 +43,7 @@ pub impl Field for u16 as U16Field {
     ghost sample = { 0 };
 
     fn equals(self, other: u16) -> bool {
-        self == other
+        other == self
     }
 }
 

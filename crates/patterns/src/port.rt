@@ -1,6 +1,8 @@
 ghost use mathlib.Core.Path.{_≡_};
 ghost use Prim.Native.Nat.{_≤_};
-ghost use Rattle.std.specs.declared.option.Option.the-variants.{Some, None};
+ghost use Rattle.std.specs.Options.{isSome};
+ghost use Rattle.std.specs.Slices.{found};
+ghost use Rattle.patterns.specs.Limits.{is-port};
 
 // A port of a switch, 1 to 16.
 #[derive(Clone, Copy, PartialEq, Eq)]
@@ -11,7 +13,8 @@ pub struct Port {
 
 impl Port {
     pub fn new(number: u8) -> Option<Port>
-        ensures { λ r. ⌜ elim r [ Some p ↦ p .number ≡ number | None ↦ ((1 ≤ number) × (number ≤ 16) → ⊥) ] ⌝ }
+        ensures test { λ r. ⌜ isSome r ≡ is-port number ⌝ }
+        ensures value { λ r. ⌜ found r (λ p. p .number ≡ number) ⌝ }
     {
         if number < 1 || number > 16 {
             return None;

@@ -1,8 +1,10 @@
 ghost use mathlib.Core.Path.{_≡_};
-ghost use mathlib.Core.Bool.{cond};
+ghost use mathlib.Core.Bool.{cond, _&&_};
 ghost use Prim.Native.Nat.{_-_, _%_, _^_, _<_, _≤_};
 ghost use lib.Dec.{leb};
-ghost use Rattle.std.specs.declared.option.Option.the-variants.{Some, None};
+ghost use Rattle.std.specs.Options.{isSome};
+ghost use Rattle.std.specs.Slices.{found};
+ghost use Rattle.patterns.specs.Limits.{is-length, ends-in-zeros};
 ghost use Rattle.patterns.specs.Prefixes.{same-start, meet-by};
 use crate::pattern::Pattern;
 
@@ -32,7 +34,8 @@ fn by_length(a: Prefix, b: Prefix) -> (Prefix, Prefix)
 
 impl Prefix {
     pub fn new(address: u32, length: u8) -> Option<Prefix>
-        ensures { λ r. ⌜ elim r [ Some p ↦ (p .address ≡ address) × (p .length ≡ length) | None ↦ ((length ≤ 32) × (address % 2 ^ (32 - length) ≡ 0) → ⊥) ] ⌝ }
+        ensures test { λ r. ⌜ isSome r ≡ (is-length length && ends-in-zeros address length) ⌝ }
+        ensures value { λ r. ⌜ found r (λ p. (p .address ≡ address) × (p .length ≡ length)) ⌝ }
     {
         if length > 32 || u64::from(address) % (1u64 << (32 - u32::from(length))) != 0 {
             return None;

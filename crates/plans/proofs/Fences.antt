@@ -1,42 +1,56 @@
 -- A series is in order: each kind of message has its part of the series, and barriers stand between the parts.
-use mathlib.Core.Path.{_≡_, sym, ap, _∙_, subst}
+use mathlib.Core.Path.{_≡_, sym, ap, _∙_, subst, refl}
 use mathlib.Core.List.{List, [], _++_, map}
 use mathlib.Core.Logic.{inl, inr}
 use Prim.Native.Nat.{ℕ, _+_, _-_, _*_, _<_, _≤_}
+use mathlib.Core.Bool.{not}
 use native.Mathlib.Omega.{arith}
+use lib.Dec.{T, eqb}
 use lib.ListN.{length, length-append}
 use Rattle.std.proofs.shelf.Elements.{all-append, all-map, all-kept-by, all-weaker}
 use Rattle.std.proofs.shelf.Lists.{append-assoc, append-nil}
-use Rattle.std.proofs.shelf.Tests.{cases-lt, ltb-true}
+use Rattle.std.proofs.shelf.Tests.{cases-lt, ltb-true, eq-eqb}
 use Rattle.std.specs.Iters.{counting}
 use Rattle.std.specs.declared.option.Option.the-variants.{Some}
 use Rattle.std.specs.Options.{mapped}
 use Rattle.std.specs.shelf.Lists.{All}
 use Rattle.std.specs.shelf.Maps.{nth}
-use Rattle.rules.proofs.Lists.{nth-map, nth-front, nth-back, nth-counting, nth-within, all-nth, all-any, all-from-nth, all-counting}
+use Rattle.patterns.proofs.Lists.{nth-map, nth-front, nth-back, nth-counting, nth-within, all-nth, all-any, all-from-nth, all-counting}
 use Rattle.rules.specs.declared.row.Row.{Row}
 use Rattle.topologies.proofs.Spots.{spots-flat}
 use Rattle.topologies.specs.Ports.{spot-at, spots, edge-ports}
 use Rattle.topologies.specs.declared.spot.PortUse.{PortUse}
 use Rattle.topologies.specs.declared.spot.Spot.{Spot}
-use Rattle.messages.specs.Lines.{kind-of}
-use Rattle.messages.specs.Sent.{Sent, stamp, remove, barrier, switch-of}
+use Rattle.messages.specs.Lines.{kind-of, tag-of}
+use Rattle.messages.specs.Sent.{Sent, barrier, switch-of}
 use Rattle.messages.specs.declared.line.Kind.{Kind}
 use Rattle.messages.specs.declared.line.Kind.the-variants as kind
-use Rattle.plans.specs.Fences.{Stands, Barrier-between, Fenced, In-order}
-use Rattle.plans.specs.Series.{add-of, adds, barriers, removes, stamps, installing, flipping, collecting, series}
+use Rattle.plans.specs.Fences.{Posted, Tagged, Barrier-between, Fenced, In-order}
+use Rattle.plans.specs.Series.{add-of, adds, barriers, removes, stamps, installing, flipping, collecting, series, stamp-of, remove-of}
 use Rattle.plans.specs.Switches.{on-switch, On-switches}
 use Rattle.plans.proofs.Sizes.{length-barriers}
 
 barrier-at : (n s : ℕ) → s < n → nth (barriers n) s ≡ Some (barrier s)
 barrier-at n s h = nth-map barrier (counting 0 n) s ∙ ap (mapped barrier) (nth-counting n s h)
 
--- No message of a list is of a kind; those of a kind go to switches below n.
+abbrev rank : Kind → ℕ
+rank kind.Add = 0
+rank kind.Stamp = 1
+rank kind.Remove = 2
+rank kind.Barrier = 3
+
+apart : (k l : Kind) → T (not (eqb (rank k) (rank l))) → k ≡ l → ⊥
+apart k l t e = subst T (ap not (eq-eqb (rank k) (rank l) (ap rank e))) t
+
+-- No message of a list is of a kind; those of a kind go to switches below n, or carry a tag.
 abbrev Free : Kind → Sent → Type 0
 Free k m = kind-of m ≡ k → ⊥
 
 abbrev Below : ℕ → Kind → Sent → Type 0
 Below n k m = kind-of m ≡ k → switch-of m < n
+
+abbrev Carries : ℕ → Kind → Sent → Type 0
+Carries t k m = kind-of m ≡ k → tag-of m ≡ t
 
 -- A front with all messages of a kind, barriers to n switches, and the rest.
 module _ (front back : List Sent) (n : ℕ) (k : Kind) (low : All (Below n k) front) (rest : All (Free k) (barriers n ++ back)) where
@@ -44,7 +58,7 @@ module _ (front back : List Sent) (n : ℕ) (k : Kind) (low : All (Below n k) fr
   whole = front ++ (barriers n ++ back)
 
   -- Such a message lies in the front, and a barrier to its switch follows before the rest.
-  followed : (i : ℕ) (a : Sent) → Stands whole i k a → (j : ℕ) → length front + n ≤ j → Barrier-between whole i j a
+  followed : (i : ℕ) (a : Sent) → Posted whole i k a → (j : ℕ) → length front + n ≤ j → Barrier-between whole i j a
   followed i a st j after =
       elim (cases-lt i (length front)) [
         | inl h ↦
@@ -82,10 +96,10 @@ module _ (n : ℕ) (ports : List PortUse) (rules : List Row) (old new : ℕ) whe
   free-adds k ne = none-made k (add-of n ports new) (λ r. ne) rules
 
   free-stamps : (k : Kind) → (kind.Stamp ≡ k → ⊥) → All (Free k) (stamps n ports new)
-  free-stamps k ne = none-made k (λ (s : Spot). stamp (s .switch) (s .port) new) (λ s. ne) (edge-ports n ports)
+  free-stamps k ne = none-made k (stamp-of new) (λ s. ne) (edge-ports n ports)
 
   free-removes : (k : Kind) → (kind.Remove ≡ k → ⊥) → All (Free k) (removes n old)
-  free-removes k ne = none-made k (λ s. remove s old) (λ s. ne) (counting 0 n)
+  free-removes k ne = none-made k (remove-of old) (λ s. ne) (counting 0 n)
 
   free-barriers : (k : Kind) → (kind.Barrier ≡ k → ⊥) → All (Free k) (barriers n)
   free-barriers k ne = none-made k barrier (λ s. ne) (counting 0 n)
@@ -106,10 +120,10 @@ module _ (n : ℕ) (ports : List PortUse) (rules : List Row) (old new : ℕ) whe
       all-kept-by _ (λ (s : Spot). s .switch < n) (spots n) (subst (All (λ (s : Spot). s .switch < n)) (sym (spots-flat n)) flat)
 
   low-stamps : All (Below n kind.Stamp) (stamps n ports new)
-  low-stamps = low-made kind.Stamp (λ (s : Spot). stamp (s .switch) (s .port) new) (edge-ports n ports) edges-within
+  low-stamps = low-made kind.Stamp (stamp-of new) (edge-ports n ports) edges-within
 
   low-removes : All (Below n kind.Remove) (removes n old)
-  low-removes = low-made kind.Remove (λ s. remove s old) (counting 0 n) (all-counting 0 n n (omega arith))
+  low-removes = low-made kind.Remove (remove-of old) (counting 0 n) (all-counting 0 n n (omega arith))
 
   abbrev installs : List Sent
   installs = installing n ports rules new
@@ -120,24 +134,6 @@ module _ (n : ℕ) (ports : List PortUse) (rules : List Row) (old new : ℕ) whe
   abbrev collects : List Sent
   collects = collecting n old
 
-  add-stamp : kind.Add ≡ kind.Stamp → ⊥
-  add-stamp e = let z : _≡_ {A = ℕ} 0 1 = cc in omega arith
-
-  add-remove : kind.Add ≡ kind.Remove → ⊥
-  add-remove e = let z : _≡_ {A = ℕ} 0 1 = cc in omega arith
-
-  stamp-remove : kind.Stamp ≡ kind.Remove → ⊥
-  stamp-remove e = let z : _≡_ {A = ℕ} 0 1 = cc in omega arith
-
-  barrier-add : kind.Barrier ≡ kind.Add → ⊥
-  barrier-add e = let z : _≡_ {A = ℕ} 0 1 = cc in omega arith
-
-  barrier-stamp : kind.Barrier ≡ kind.Stamp → ⊥
-  barrier-stamp e = let z : _≡_ {A = ℕ} 0 1 = cc in omega arith
-
-  barrier-remove : kind.Barrier ≡ kind.Remove → ⊥
-  barrier-remove e = let z : _≡_ {A = ℕ} 0 1 = cc in omega arith
-
   free-installing : (k : Kind) → (kind.Add ≡ k → ⊥) → (kind.Barrier ≡ k → ⊥) → All (Free k) installs
   free-installing k a b = all-append (Free k) (adds n ports rules new) (barriers n) (free-adds k a) (free-barriers k b)
 
@@ -147,30 +143,32 @@ module _ (n : ℕ) (ports : List PortUse) (rules : List Row) (old new : ℕ) whe
   free-collecting : (k : Kind) → (kind.Remove ≡ k → ⊥) → (kind.Barrier ≡ k → ⊥) → All (Free k) collects
   free-collecting k r b = all-append (Free k) (removes n old) (barriers n) (free-removes k r) (free-barriers k b)
 
-  adds-stamps : On-switches n rules (length rules) → Fenced (series n ports rules old new) kind.Add kind.Stamp
-  adds-stamps on =
-      let later = all-append (Free kind.Add) flips collects (free-flipping kind.Add (λ e. add-stamp (sym e)) barrier-add) (free-collecting kind.Add (λ e. add-remove (sym e)) barrier-add) in
-      subst (λ xs. Fenced xs kind.Add kind.Stamp) (sym (append-assoc (adds n ports rules new) (barriers n) (flips ++ collects)))
+  adds-first : On-switches n rules (length rules) → (l : Kind) → (kind.Add ≡ l → ⊥) → (kind.Barrier ≡ l → ⊥) → Fenced (series n ports rules old new) kind.Add l
+  adds-first on l a b =
+      let no-barrier = free-barriers kind.Add (apart kind.Barrier kind.Add tt) in
+      let later = all-append (Free kind.Add) flips collects
+      (free-flipping kind.Add (apart kind.Stamp kind.Add tt) (apart kind.Barrier kind.Add tt))
+      (free-collecting kind.Add (apart kind.Remove kind.Add tt) (apart kind.Barrier kind.Add tt)) in
+      subst (λ xs. Fenced xs kind.Add l) (sym (append-assoc (adds n ports rules new) (barriers n) (flips ++ collects)))
       (fenced (adds n ports rules new) (flips ++ collects) n kind.Add (low-adds on)
-      (all-append (Free kind.Add) (barriers n) (flips ++ collects) (free-barriers kind.Add barrier-add) later)
-      kind.Stamp (free-installing kind.Stamp add-stamp barrier-stamp))
+      (all-append (Free kind.Add) (barriers n) (flips ++ collects) no-barrier later) l (free-installing l a b))
 
   stamps-removes : Fenced (series n ports rules old new) kind.Stamp kind.Remove
   stamps-removes =
       let front = installs ++ stamps n ports new in
       let parts : front ++ (barriers n ++ collects) ≡ series n ports rules old new =
       append-assoc installs (stamps n ports new) (barriers n ++ collects) ∙ ap (λ xs. installs ++ xs) (sym (append-assoc (stamps n ports new) (barriers n) collects)) in
-      let low = all-append (Below n kind.Stamp) installs (stamps n ports new) (low-free kind.Stamp installs (free-installing kind.Stamp add-stamp barrier-stamp)) low-stamps in
+      let low = all-append (Below n kind.Stamp) installs (stamps n ports new) (low-free kind.Stamp installs (free-installing kind.Stamp (apart kind.Add kind.Stamp tt) (apart kind.Barrier kind.Stamp tt))) low-stamps in
       let early = all-append (Free kind.Remove) front (barriers n)
-      (all-append (Free kind.Remove) installs (stamps n ports new) (free-installing kind.Remove add-remove barrier-remove) (free-stamps kind.Remove stamp-remove))
-      (free-barriers kind.Remove barrier-remove) in
+      (all-append (Free kind.Remove) installs (stamps n ports new) (free-installing kind.Remove (apart kind.Add kind.Remove tt) (apart kind.Barrier kind.Remove tt)) (free-stamps kind.Remove (apart kind.Stamp kind.Remove tt)))
+      (free-barriers kind.Remove (apart kind.Barrier kind.Remove tt)) in
       subst (λ xs. Fenced xs kind.Stamp kind.Remove) parts
       (fenced front collects n kind.Stamp low
-      (all-append (Free kind.Stamp) (barriers n) collects (free-barriers kind.Stamp barrier-stamp) (free-collecting kind.Stamp (λ e. stamp-remove (sym e)) barrier-stamp))
+      (all-append (Free kind.Stamp) (barriers n) collects (free-barriers kind.Stamp (apart kind.Barrier kind.Stamp tt)) (free-collecting kind.Stamp (apart kind.Remove kind.Stamp tt) (apart kind.Barrier kind.Stamp tt)))
       kind.Remove early)
 
   abbrev Ends : List Sent → Type 0
-  Ends xs = (i : ℕ) (a : Sent) → Stands xs i kind.Remove a → Barrier-between xs i (length xs) a
+  Ends xs = (i : ℕ) (a : Sent) → Posted xs i kind.Remove a → Barrier-between xs i (length xs) a
 
   removes-end : Ends (series n ports rules old new)
   removes-end =
@@ -178,11 +176,51 @@ module _ (n : ℕ) (ports : List PortUse) (rules : List Row) (old new : ℕ) whe
       let parts : front ++ (barriers n ++ []) ≡ series n ports rules old new =
       append-assoc installs (flips ++ removes n old) (barriers n ++ [])
       ∙ ap (λ xs. installs ++ xs) (append-assoc flips (removes n old) (barriers n ++ []) ∙ ap (λ xs. flips ++ (removes n old ++ xs)) (append-nil (barriers n))) in
-      let low = all-append (Below n kind.Remove) installs (flips ++ removes n old) (low-free kind.Remove installs (free-installing kind.Remove add-remove barrier-remove))
-      (all-append (Below n kind.Remove) flips (removes n old) (low-free kind.Remove flips (free-flipping kind.Remove stamp-remove barrier-remove)) low-removes) in
-      let rest = all-append (Free kind.Remove) (barriers n) [] (free-barriers kind.Remove barrier-remove) tt in
+      let low = all-append (Below n kind.Remove) installs (flips ++ removes n old) (low-free kind.Remove installs (free-installing kind.Remove (apart kind.Add kind.Remove tt) (apart kind.Barrier kind.Remove tt)))
+      (all-append (Below n kind.Remove) flips (removes n old) (low-free kind.Remove flips (free-flipping kind.Remove (apart kind.Stamp kind.Remove tt) (apart kind.Barrier kind.Remove tt))) low-removes) in
+      let rest = all-append (Free kind.Remove) (barriers n) [] (free-barriers kind.Remove (apart kind.Barrier kind.Remove tt)) tt in
       let long : length (front ++ (barriers n ++ [])) ≡ length front + n = length-append front (barriers n ++ []) ∙ ap (λ m. length front + m) (ap length (append-nil (barriers n)) ∙ length-barriers n) in
       subst Ends parts (λ i a st. followed front [] n kind.Remove low rest i a st (length (front ++ (barriers n ++ []))) (omega arith))
 
-  pub in-order : On-switches n rules (length rules) → In-order (series n ports rules old new)
-  in-order on = record { adds-then-stamps = adds-stamps on; stamps-then-removes = stamps-removes; removes-then-end = removes-end }
+  free-carries : (t : ℕ) (k : Kind) (xs : List Sent) → All (Free k) xs → All (Carries t k) xs
+  free-carries t k xs free = all-weaker (Free k) (Carries t k) (λ m f e. absurd (f e)) xs free
+
+  tagged : (t : ℕ) (k : Kind) → (kind.Barrier ≡ k → ⊥) → All (Carries t k) (adds n ports rules new) → All (Carries t k) (stamps n ports new) → All (Carries t k) (removes n old) → Tagged (series n ports rules old new) k t
+  tagged t k b xs ys zs i m posted =
+      let with-barriers = λ (part : List Sent) (all : All (Carries t k) part). all-append (Carries t k) part (barriers n) all (free-carries t k (barriers n) (free-barriers k b)) in
+      all-nth (Carries t k) (series n ports rules old new) i m
+      (all-append (Carries t k) installs (flips ++ collects) (with-barriers (adds n ports rules new) xs)
+      (all-append (Carries t k) flips collects (with-barriers (stamps n ports new) ys) (with-barriers (removes n old) zs)))
+      (posted .here) (posted .kind)
+
+  made-carries : {X : Type 0} (t : ℕ) (k : Kind) (f : X → Sent) → ((x : X) → tag-of (f x) ≡ t) → (xs : List X) → All (Carries t k) (map f xs)
+  made-carries t k f is xs = all-map (Carries t k) f xs (all-any (λ x. Carries t k (f x)) (λ x e. is x) xs)
+
+  adds-tagged : Tagged (series n ports rules old new) kind.Add new
+  adds-tagged =
+      tagged new kind.Add (apart kind.Barrier kind.Add tt) (made-carries new kind.Add (add-of n ports new) (λ r. refl) rules)
+      (free-carries new kind.Add (stamps n ports new) (free-stamps kind.Add (apart kind.Stamp kind.Add tt)))
+      (free-carries new kind.Add (removes n old) (free-removes kind.Add (apart kind.Remove kind.Add tt)))
+
+  stamps-tagged : Tagged (series n ports rules old new) kind.Stamp new
+  stamps-tagged =
+      tagged new kind.Stamp (apart kind.Barrier kind.Stamp tt) (free-carries new kind.Stamp (adds n ports rules new) (free-adds kind.Stamp (apart kind.Add kind.Stamp tt)))
+      (made-carries new kind.Stamp (stamp-of new) (λ s. refl) (edge-ports n ports))
+      (free-carries new kind.Stamp (removes n old) (free-removes kind.Stamp (apart kind.Remove kind.Stamp tt)))
+
+  removes-tagged : Tagged (series n ports rules old new) kind.Remove old
+  removes-tagged =
+      tagged old kind.Remove (apart kind.Barrier kind.Remove tt) (free-carries old kind.Remove (adds n ports rules new) (free-adds kind.Remove (apart kind.Add kind.Remove tt)))
+      (free-carries old kind.Remove (stamps n ports new) (free-stamps kind.Remove (apart kind.Stamp kind.Remove tt)))
+      (made-carries old kind.Remove (remove-of old) (λ s. refl) (counting 0 n))
+
+  pub in-order : On-switches n rules (length rules) → In-order (series n ports rules old new) old new
+  in-order on = record {
+    adds-new = adds-tagged;
+    stamps-new = stamps-tagged;
+    removes-old = removes-tagged;
+    adds-then-stamps = adds-first on kind.Stamp (apart kind.Add kind.Stamp tt) (apart kind.Barrier kind.Stamp tt);
+    adds-then-removes = adds-first on kind.Remove (apart kind.Add kind.Remove tt) (apart kind.Barrier kind.Remove tt);
+    stamps-then-removes = stamps-removes;
+    removes-then-end = removes-end;
+  }

@@ -5,7 +5,7 @@ use Prim.Native.Nat.{ℕ}
 use native.Mathlib.Omega.{arith}
 use lib.ListN.{length}
 use Rattle.std.proofs.shelf.Tests.{ltb-true}
-use Rattle.rules.proofs.Lists.{nth-within}
+use Rattle.patterns.proofs.Lists.{nth-within}
 use Rattle.rules.specs.declared.row.Row.{Row}
 use Rattle.plans.specs.declared.fault.PlanFault.{PlanFault}
 use Rattle.plans.specs.Switches.{on-switch, On-switches, Off-switches}

@@ -4,3 +4,4 @@ pub mod Switches
 pub mod Series
 pub mod Planned
 pub mod Fences
+pub mod Texts

@@ -1,4 +1,4 @@
--- The series of a plan, whole and by stages.
+-- The parts of a plan, and its series.
 use mathlib.Core.List.{List}
 use Prim.Native.Nat.{ℕ}
 use Rattle.messages.specs.Sent.{Sent}
@@ -7,7 +7,7 @@ use Rattle.topologies.specs.declared.spot.PortUse.{PortUse}
 use Rattle.topologies.specs.declared.spot.Spot.{Spot}
 use Rattle.topologies.specs.Ports.{edge-ports}
 use Rattle.plans.specs.declared.plan.Plan.{Plan}
-use Rattle.plans.specs.Versions.{tag-of, other}
+use Rattle.plans.specs.Versions.{version-tag, other}
 use Rattle.plans.specs.Series as series
 
 abbrev pub switches : Plan → ℕ
@@ -20,10 +20,10 @@ abbrev pub rules : Plan → List Row
 rules p = p .configuration .rows .now
 
 abbrev pub old-tag : Plan → ℕ
-old-tag p = tag-of (p .«in_force»)
+old-tag p = version-tag (p .«in_force»)
 
 abbrev pub new-tag : Plan → ℕ
-new-tag p = tag-of (other (p .«in_force»))
+new-tag p = version-tag (other (p .«in_force»))
 
 abbrev pub edges : Plan → List Spot
 edges p = edge-ports (switches p) (ports p)

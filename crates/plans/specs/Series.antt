@@ -17,9 +17,9 @@ use Rattle.messages.specs.Sent.{Sent, add, stamp, remove, barrier}
 
 -- Here n is the number of switches, and `ports` says what each port is used for.
 
-abbrev pub is-edge-port : ℕ → List PortUse → ℕ → Action ℕ → Bool
+abbrev pub is-edge-port : ℕ → List PortUse → ℕ → Action → Bool
 is-edge-port n ports switch Drop = false
-is-edge-port n ports switch (Out p) = let s : Spot = record { switch = switch; port = p } in within n s && is-of kind.Edge (use-of ports s)
+is-edge-port n ports switch (Out p) = let s : Spot = record { switch = switch; port = p } in within n s && is-of kind.Edge s (use-of ports s)
 
 -- An add per rule, in configuration order, marked strip exactly when its out port is an edge port.
 abbrev pub add-of : ℕ → List PortUse → ℕ → Row → Sent
@@ -32,12 +32,18 @@ adds n ports rules tag = map (add-of n ports tag) rules
 abbrev pub barriers : ℕ → List Sent
 barriers n = map barrier (counting 0 n)
 
+abbrev pub remove-of : ℕ → ℕ → Sent
+remove-of tag switch = remove switch tag
+
 abbrev pub removes : ℕ → ℕ → List Sent
-removes n tag = map (λ s. remove s tag) (counting 0 n)
+removes n tag = map (remove-of tag) (counting 0 n)
 
 -- A stamp per edge port, by switch and port.
+abbrev pub stamp-of : ℕ → Spot → Sent
+stamp-of tag s = stamp (s .switch) (s .port) tag
+
 abbrev pub stamps : ℕ → List PortUse → ℕ → List Sent
-stamps n ports tag = map (λ (s : Spot). stamp (s .switch) (s .port) tag) (edge-ports n ports)
+stamps n ports tag = map (stamp-of tag) (edge-ports n ports)
 
 -- What the stages post. Draining, between flipping and collecting, posts nothing.
 abbrev pub installing : ℕ → List PortUse → List Row → ℕ → List Sent

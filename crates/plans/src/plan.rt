@@ -5,6 +5,7 @@ use crate::version::Version;
 use configurations::configuration::Configuration;
 use topologies::topology::Topology;
 
+pub mod heading;
 pub mod making;
 pub mod posting;
 pub mod sum;

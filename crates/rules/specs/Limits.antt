@@ -1,11 +1,12 @@
 -- The limits of a rule: which rows make one, and which refusal the others get.
 use mathlib.Core.Path.{_≡_}
-use mathlib.Core.Bool.{Bool, false, cond, _&&_, _||_}
-use Prim.Native.Nat.{ℕ, _-_, _%_, _^_}
+use mathlib.Core.Bool.{Bool, false, cond, _||_}
+use Prim.Native.Nat.{ℕ, _-_}
 use lib.Dec.{eqb, leb}
 use Rattle.std.specs.declared.option.Option.{Option}
 use Rattle.std.specs.declared.option.Option.the-variants.{Some, None}
 use Rattle.std.specs.Options.{isSome, orOther}
+use Rattle.patterns.specs.Limits.{is-port, is-length, ends-in-zeros}
 use Rattle.patterns.specs.declared.number.Number.{Number}
 use Rattle.patterns.specs.declared.number.Number.the-variants.{Open, Fixed}
 use Rattle.rules.specs.declared.row.Action.{Action}
@@ -19,9 +20,6 @@ use Rattle.rules.specs.declared.fault.RuleFault.the-variants as fault
 abbrev pub unless : Bool → RuleFault → Option RuleFault
 unless test f = cond test None (Some f)
 
-abbrev pub is-port : ℕ → Bool
-is-port p = leb 1 p && leb p 16
-
 abbrev pub switch-fault : ℕ → Option RuleFault
 switch-fault s = unless (leb s 15) (fault.Switch s)
 
@@ -30,11 +28,10 @@ in-port-fault Open = None
 in-port-fault (Fixed p) = unless (is-port p) (fault.InPort p)
 
 abbrev pub length-fault : Block → Option RuleFault
-length-fault b = unless (leb (b .length) 32) (fault.Length (b .length))
+length-fault b = unless (is-length (b .length)) (fault.Length (b .length))
 
--- No bit after the first `length` is one.
 abbrev pub bits-fault : Block → Option RuleFault
-bits-fault b = unless (eqb (b .address % 2 ^ (32 - b .length)) 0) (fault.StrayBit (b .address) (b .length))
+bits-fault b = unless (ends-in-zeros (b .address) (b .length)) (fault.StrayBit (b .address) (b .length))
 
 -- TCP and UDP have ports.
 abbrev pub has-ports : Number ℕ → Bool
@@ -45,7 +42,7 @@ abbrev pub transport-fault : Number ℕ → Number ℕ → Option RuleFault
 transport-fault protocol Open = None
 transport-fault protocol (Fixed p) = unless (has-ports protocol) (fault.PortWithoutTransport p protocol)
 
-abbrev pub out-port-fault : Action ℕ → Option RuleFault
+abbrev pub out-port-fault : Action → Option RuleFault
 out-port-fault Drop = None
 out-port-fault (Out p) = unless (is-port p) (fault.OutPort p)
 

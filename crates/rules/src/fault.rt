@@ -11,8 +11,8 @@ pub enum RuleFault {
     Switch(u8),
     InPort(u8),
     Length(u8),
-    StrayBit(u32, u8),
-    PortWithoutTransport(u16, Number<u8>),
+    StrayBit { address: u32, length: u8 },
+    PortWithoutTransport { port: u16, protocol: Number<u8> },
     OutPort(u8),
 }
 
@@ -25,8 +25,8 @@ impl RuleFault {
             RuleFault::Switch(_) => 21,
             RuleFault::InPort(_) => 22,
             RuleFault::Length(_) => 23,
-            RuleFault::StrayBit(_, _) => 24,
-            RuleFault::PortWithoutTransport(_, _) => 25,
+            RuleFault::StrayBit { .. } => 24,
+            RuleFault::PortWithoutTransport { .. } => 25,
             RuleFault::OutPort(_) => 26,
         }
     }

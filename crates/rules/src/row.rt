@@ -3,11 +3,11 @@ use patterns::number::NumberClone;
 use patterns::number::NumberEq;
 use patterns::number::NumberPartialEq;
 
-// What a rule does with the packets that it admits. Ports are plain numbers in a row, and `Port`s in a rule's answer.
+// What a rule does with the packets that it admits; the out port is a plain number, which need not be a port.
 #[derive(Clone, Copy, PartialEq, Eq)]
-pub enum Action<P> {
+pub enum Action {
     Drop,
-    Out(P),
+    Out(u8),
 }
 
 // An address block as written, address/length; the numbers need not make a prefix.
@@ -33,5 +33,5 @@ pub struct Row {
     pub switch: u8,
     pub priority: u16,
     pub pattern: PatternRow,
-    pub action: Action<u8>,
+    pub action: Action,
 }

@@ -1,6 +1,8 @@
 ghost use mathlib.Core.Path.{_≡_};
 ghost use Prim.Native.Nat.{_≤_};
-ghost use Rattle.std.specs.declared.option.Option.the-variants.{Some, None};
+ghost use lib.Dec.{leb};
+ghost use Rattle.std.specs.Options.{isSome};
+ghost use Rattle.std.specs.Slices.{found};
 
 // A switch of a site, 0 to 15.
 #[derive(Clone, Copy, PartialEq, Eq)]
@@ -11,7 +13,8 @@ pub struct Switch {
 
 impl Switch {
     pub fn new(number: u8) -> Option<Switch>
-        ensures { λ r. ⌜ elim r [ Some s ↦ s .number ≡ number | None ↦ (number ≤ 15 → ⊥) ] ⌝ }
+        ensures test { λ r. ⌜ isSome r ≡ leb number 15 ⌝ }
+        ensures value { λ r. ⌜ found r (λ s. s .number ≡ number) ⌝ }
     {
         if number > 15 {
             return None;

@@ -26,13 +26,13 @@ spot-within n i h = and-from _ _ (lt-ltb (i / 16) n (omega arith)) (and-from _ _
 
 module _ (kind : PortKind) (ports : List PortUse) where
   abbrev pub kept : List Spot → List Spot
-  kept = kept-by (λ s. is-of kind (use-of ports s))
+  kept = kept-by (λ s. is-of kind s (use-of ports s))
 
   abbrev pub is-kept : ℕ → Bool
-  is-kept i = is-of kind (getD ports i Unused)
+  is-kept i = is-of kind (spot-at i) (getD ports i Unused)
 
-  at-place : (i : ℕ) → is-of kind (use-of ports (spot-at i)) ≡ is-kept i
-  at-place i = ap is-kept (index-spot i)
+  at-place : (i : ℕ) → is-of kind (spot-at i) (use-of ports (spot-at i)) ≡ is-kept i
+  at-place i = ap (λ k. is-of kind (spot-at i) (getD ports k Unused)) (index-spot i)
 
   length-cond : (b : Bool) (x : Spot) → length (cond b (x ∷ []) []) ≡ cond b 1 0
   length-cond true x = refl
@@ -43,9 +43,9 @@ module _ (kind : PortKind) (ports : List PortUse) where
   count-more i n b e is =
       let sized : (t : Bool) → cond t (n + 1) n ≡ n + cond t 1 0 = λ t. elim t as (λ t. cond t (n + 1) n ≡ n + cond t 1 0) [ true ↦ refl | false ↦ omega arith ] in
       let front = kept (map spot-at (counting 0 i)) in
-      let more = ap length (kept-by-map-counting-more (λ s. is-of kind (use-of ports s)) spot-at 0 i i (omega arith)) in
-      let last : length (cond (is-of kind (use-of ports (spot-at i))) (spot-at i ∷ []) []) ≡ cond b 1 0 = length-cond _ (spot-at i) ∙ ap (λ t. cond t 1 0) (at-place i ∙ e) in
-      let sum = length-append front (cond (is-of kind (use-of ports (spot-at i))) (spot-at i ∷ []) []) in
+      let more = ap length (kept-by-map-counting-more (λ s. is-of kind s (use-of ports s)) spot-at 0 i i (omega arith)) in
+      let last : length (cond (is-of kind (spot-at i) (use-of ports (spot-at i))) (spot-at i ∷ []) []) ≡ cond b 1 0 = length-cond _ (spot-at i) ∙ ap (λ t. cond t 1 0) (at-place i ∙ e) in
+      let sum = length-append front (cond (is-of kind (spot-at i) (use-of ports (spot-at i))) (spot-at i ∷ []) []) in
       sized b ∙ omega (arith, more, sum, last, is)
 
   -- The ports from place i on, of m.

@@ -1,14 +1,15 @@
 -- The ports of a topology of n switches, and what each is used for.
-use mathlib.Core.Bool.{Bool, true, false, not, _&&_}
+use mathlib.Core.Bool.{Bool, true, false, not, _&&_, _||_}
 use mathlib.Core.Path.{_≡_}
 use mathlib.Core.List.{List, map}
 use Prim.Native.Nat.{ℕ, _+_, _-_, _*_, _/_, _%_}
-use lib.Dec.{eqb, leb, ltb}
-use lib.ListN.{length, getD}
+use lib.Dec.{eqb, ltb}
+use lib.ListN.{getD}
 use Rattle.std.specs.Iters.{counting}
 use Rattle.std.specs.Joined.{joined}
 use Rattle.std.specs.shelf.Lists.{kept-by}
 use Rattle.topologies.specs.declared.spot.Spot.{Spot}
+use Rattle.patterns.specs.Limits.{is-port}
 use Rattle.topologies.specs.declared.spot.PortKind.{PortKind}
 use Rattle.topologies.specs.declared.spot.PortKind.the-variants as kind
 use Rattle.topologies.specs.declared.spot.PortUse.{PortUse}
@@ -19,7 +20,7 @@ same a b = eqb (a .switch) (b .switch) && eqb (a .port) (b .port)
 
 -- A port of one of the n switches: the switch below n, the port 1 to 16.
 abbrev pub within : ℕ → Spot → Bool
-within n s = ltb (s .switch) n && (leb 1 (s .port) && leb (s .port) 16)
+within n s = ltb (s .switch) n && is-port (s .port)
 
 -- The ports lie in one list, 16 to a switch, by switch and port.
 abbrev pub index : Spot → ℕ
@@ -36,14 +37,6 @@ abbrev pub is-unused : PortUse → Bool
 is-unused Unused = true
 is-unused Edge = false
 is-unused (Linked o) = false
-
-abbrev pub is-of : PortKind → PortUse → Bool
-is-of kind.Edge Unused = false
-is-of kind.Edge Edge = true
-is-of kind.Edge (Linked o) = false
-is-of kind.Linked Unused = false
-is-of kind.Linked Edge = false
-is-of kind.Linked (Linked o) = true
 
 abbrev pub is-linked-with : Spot → PortUse → Bool
 is-linked-with s Unused = false
@@ -63,13 +56,26 @@ Paired n ports = (s : Spot) → within n s ≡ true → links-back n ports s (us
 abbrev pub spots : ℕ → List Spot
 spots n = joined (λ s. map (λ p. record { switch = s; port = p }) (counting 1 16)) (counting 0 n)
 
+-- By switch and port.
+abbrev pub comes-before : Spot → Spot → Bool
+comes-before a b = ltb (a .switch) (b .switch) || (eqb (a .switch) (b .switch) && ltb (a .port) (b .port))
+
+-- A port is counted as an edge port, or for the link of which it is the first end.
+abbrev pub is-of : PortKind → Spot → PortUse → Bool
+is-of kind.Edge s Unused = false
+is-of kind.Edge s Edge = true
+is-of kind.Edge s (Linked o) = false
+is-of kind.Link s Unused = false
+is-of kind.Link s Edge = false
+is-of kind.Link s (Linked o) = comes-before s o
+
 -- The ports of one kind, by switch and port.
 abbrev pub ports-of : PortKind → ℕ → List PortUse → List Spot
-ports-of kind n ports = kept-by (λ s. is-of kind (use-of ports s)) (spots n)
+ports-of kind n ports = kept-by (λ s. is-of kind s (use-of ports s)) (spots n)
 
 abbrev pub edge-ports : ℕ → List PortUse → List Spot
 edge-ports = ports-of kind.Edge
 
--- Each link has two linked ports.
-abbrev pub link-count : ℕ → List PortUse → ℕ
-link-count n ports = length (ports-of kind.Linked n ports) / 2
+-- Each link, by its first end.
+abbrev pub links : ℕ → List PortUse → List Spot
+links = ports-of kind.Link

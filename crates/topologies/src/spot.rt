@@ -13,9 +13,9 @@ pub enum PortUse {
     Linked(Spot),
 }
 
-// The uses of a port that are counted.
+// What ports are counted by: edge ports, or links, each at the first of its two ends.
 #[derive(Clone, Copy, PartialEq, Eq)]
 pub enum PortKind {
     Edge,
-    Linked,
+    Link,
 }

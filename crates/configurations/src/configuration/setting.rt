@@ -13,6 +13,9 @@ use crate::fault::ConfigurationFault;
 use rules::row::Row;
 use rules::rule::Rule;
 
+// The most rules that a configuration has.
+const MOST_RULES: usize = 256;
+
 // Each row makes a rule.
 fn check_rows(rows: &[Row]) -> Result<(), ConfigurationFault>
     requires { ⌜ length (now rows) ≤ 256 ⌝ }
@@ -20,7 +23,7 @@ fn check_rows(rows: &[Row]) -> Result<(), ConfigurationFault>
 {
     for (place, row) in rows.iter().enumerate() {
         if let Err(fault) = Rule::new(*row) {
-            return Err(ConfigurationFault::Row(place, fault));
+            return Err(ConfigurationFault::Row { place, fault });
         }
     }
     Ok(())
@@ -46,7 +49,7 @@ fn check_earlier(rows: &[Row], later: usize) -> Result<(), ConfigurationFault>
     let rule = rule_at(rows, later);
     for earlier in 0..later {
         if rule_at(rows, earlier).clashes(rule) {
-            return Err(ConfigurationFault::Clash(later, earlier));
+            return Err(ConfigurationFault::Clash { later, earlier });
         }
     }
     Ok(())
@@ -67,7 +70,7 @@ fn check_pairs(rows: &[Row]) -> Result<(), ConfigurationFault>
 fn check(rows: &[Row]) -> Result<(), ConfigurationFault>
     ensures { λ r. ⌜ Cases r (λ _. Sound (now (rows .entry))) (Refused (now (rows .entry))) ⌝ }
 {
-    if rows.len() > 256 {
+    if rows.len() > MOST_RULES {
         return Err(ConfigurationFault::TooMany(rows.len()));
     }
     check_rows(rows)?;

@@ -4,7 +4,7 @@ ghost use lib.ListN.{length};
 ghost use Rattle.std.specs.Results.{Cases, isOk};
 ghost use Rattle.std.specs.Vec.{made};
 ghost use Rattle.plans.specs.Fences.{In-order};
-ghost use Rattle.plans.specs.Planned.{planned};
+ghost use Rattle.plans.specs.Planned.{planned, old-tag, new-tag};
 ghost use Rattle.plans.specs.Switches.{On-switches, Off-switches};
 use crate::fault::PlanFault;
 use crate::plan::Plan;
@@ -36,7 +36,7 @@ impl<'a> Plan<'a> {
         in_force: Version,
     ) -> Result<Plan<'a>, PlanFault>
         ensures value { λ r. ⌜ Cases r (λ p. (now (p .topology) ≡ now (topology .entry)) × (now (p .configuration .rows) ≡ now (configuration .entry .rows)) × (p .«in_force» ≡ «in_force»)) (Off-switches (now (topology .entry) .switches) (now (configuration .entry .rows))) ⌝ }
-        ensures order { λ r. ⌜ made r (λ p. In-order (planned p)) ⌝ }
+        ensures order { λ r. ⌜ made r (λ p. In-order (planned p) (old-tag p) (new-tag p)) ⌝ }
         ensures granted { λ r. ⌜ (On-switches (now (topology .entry) .switches) (now (configuration .entry .rows)) (length (now (configuration .entry .rows))) → isOk r ≡ true) ⌝ }
     {
         check_switches(topology.switches(), configuration.rows())?;

@@ -60,14 +60,17 @@ impl<'a> Plan<'a> {
         ensures { λ r. ⌜ mapped sent r ≡ nth (barriers (switches (now (self .entry)))) place ⌝ }
     {
         let switch = switch(self.topology, place)?;
-        Some(Message::Barrier(switch))
+        Some(Message::Barrier { switch })
     }
 
     fn remove(&self, place: usize) -> Option<Message>
         ensures { λ r. ⌜ mapped sent r ≡ nth (removes (switches (now (self .entry))) (old-tag (now (self .entry)))) place ⌝ }
     {
         let switch = switch(self.topology, place)?;
-        Some(Message::Remove(switch, self.in_force.tag()))
+        Some(Message::Remove {
+            switch,
+            tag: self.in_force.tag(),
+        })
     }
 
     fn stamp(&self, place: usize) -> Option<Message>
@@ -75,7 +78,11 @@ impl<'a> Plan<'a> {
     {
         let at = self.topology.edge_port(place)?;
         let (switch, port) = (Switch::new(at.switch).unwrap(), Port::new(at.port).unwrap());
-        Some(Message::Stamp(switch, port, self.in_force.other().tag()))
+        Some(Message::Stamp {
+            switch,
+            port,
+            tag: self.in_force.other().tag(),
+        })
     }
 
     // What the stages post, each by place from 0.

@@ -1,8 +1,11 @@
 ghost use mathlib.Core.Path.{_≡_};
 ghost use Prim.Native.Nat.{_+_, _*_};
 ghost use lib.ListN.{length};
+ghost use Rattle.std.specs.declared.option.Option.the-variants.{Some};
+ghost use Rattle.plans.specs.Texts.{sum-text};
 ghost use Rattle.plans.specs.Planned.{switches, rules, edges, planned};
 use crate::plan::Plan;
+use std::fmt;
 
 // How many messages a series has, in all and by what they are for.
 #[derive(Clone, Copy, PartialEq, Eq)]
@@ -28,5 +31,22 @@ impl Plan<'_> {
             edge_ports,
             switch_messages,
         }
+    }
+}
+
+pub impl fmt::Display for Sum as SumDisplay {
+    ghost shown = { λ s. Some (sum-text s) };
+
+    fn fmt<W: fmt::Write>(&self, f: &mut fmt::Formatter<W>) -> fmt::Result {
+        let Sum {
+            total,
+            rules,
+            edge_ports,
+            switch_messages,
+        } = *self;
+        write!(
+            f,
+            "sum {total}: {rules} for rules, {edge_ports} for edge ports, {switch_messages} for switches"
+        )
     }
 }

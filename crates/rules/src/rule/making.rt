@@ -1,5 +1,5 @@
 ghost use mathlib.Core.Path.{_≡_};
-ghost use Prim.Native.Nat.{_-_, _%_, _<_, _≤_};
+ghost use Prim.Native.Nat.{_-_, _<_, _≤_};
 ghost use Rattle.std.specs.Results.{errPart};
 ghost use Rattle.std.specs.Vec.{made};
 ghost use Rattle.rules.specs.Limits.{row-fault, switch-fault, in-port-fault, length-fault, bits-fault, transport-fault, out-port-fault};
@@ -8,12 +8,15 @@ use crate::row::Action;
 use crate::row::Block;
 use crate::row::Row;
 use crate::rule::Rule;
+use crate::switch::Switch;
 use patterns::number::Number;
+use patterns::port::Port;
+use patterns::prefix::Prefix;
 
 fn check_switch(switch: u8) -> Result<(), RuleFault>
     ensures { λ r. ⌜ errPart r ≡ switch-fault switch ⌝ }
 {
-    if switch > 15 {
+    if Switch::new(switch).is_none() {
         return Err(RuleFault::Switch(switch));
     }
     Ok(())
@@ -23,7 +26,7 @@ fn check_in_port(port: Number<u8>) -> Result<(), RuleFault>
     ensures { λ r. ⌜ errPart r ≡ in-port-fault port ⌝ }
 {
     match port {
-        Number::Fixed(p) if p < 1 || p > 16 => Err(RuleFault::InPort(p)),
+        Number::Fixed(p) if Port::new(p).is_none() => Err(RuleFault::InPort(p)),
         _ => Ok(()),
     }
 }
@@ -42,8 +45,9 @@ fn check_bits(block: Block) -> Result<(), RuleFault>
     requires { ⌜ block .length ≤ 32 ⌝ }
     ensures { λ r. ⌜ errPart r ≡ bits-fault block ⌝ }
 {
-    if u64::from(block.address) % (1u64 << (32 - u32::from(block.length))) != 0 {
-        return Err(RuleFault::StrayBit(block.address, block.length));
+    let Block { address, length } = block;
+    if Prefix::new(address, length).is_none() {
+        return Err(RuleFault::StrayBit { address, length });
     }
     Ok(())
 }
@@ -55,15 +59,15 @@ fn check_transport(protocol: Number<u8>, port: Number<u16>) -> Result<(), RuleFa
         (_, Number::Open) => Ok(()),
         (Number::Fixed(6), _) => Ok(()),
         (Number::Fixed(17), _) => Ok(()),
-        (_, Number::Fixed(p)) => Err(RuleFault::PortWithoutTransport(p, protocol)),
+        (_, Number::Fixed(p)) => Err(RuleFault::PortWithoutTransport { port: p, protocol }),
     }
 }
 
-fn check_out_port(action: Action<u8>) -> Result<(), RuleFault>
+fn check_out_port(action: Action) -> Result<(), RuleFault>
     ensures { λ r. ⌜ errPart r ≡ out-port-fault action ⌝ }
 {
     match action {
-        Action::Out(p) if p < 1 || p > 16 => Err(RuleFault::OutPort(p)),
+        Action::Out(p) if Port::new(p).is_none() => Err(RuleFault::OutPort(p)),
         _ => Ok(()),
     }
 }
@@ -96,5 +100,13 @@ impl Rule {
         ensures { λ r. ⌜ r ≡ self .row ⌝ }
     {
         self.row
+    }
+
+    // The switch that it is on.
+    pub fn switch(self) -> Switch
+        ensures { λ r. ⌜ r .number ≡ self .row .switch ⌝ }
+    {
+        let Rule { row } = self;
+        Switch::new(row.switch).unwrap()
     }
 }

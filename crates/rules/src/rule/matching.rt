@@ -59,11 +59,8 @@ impl Rule {
         ensures { λ r. ⌜ numbers-of r ≡ self .row .pattern ⌝ }
     {
         let p = self.row.pattern;
-        let addresses_on = Pair(prefix(p.destination), Pair(p.protocol, p.destination_port));
-        Pair(
-            port_pattern(p.in_port),
-            Pair(prefix(p.source), addresses_on),
-        )
+        let rest = Pair(prefix(p.destination), Pair(p.protocol, p.destination_port));
+        Pair(port_pattern(p.in_port), Pair(prefix(p.source), rest))
     }
 
     // Whether the rule admits a packet with this header that came in at this port.

@@ -11,6 +11,7 @@ use crate::fault::TopologyFault;
 use crate::spot::PortUse;
 use crate::spot::Spot;
 use crate::topology::Topology;
+use patterns::port::Port;
 
 // Where the use of a port lies.
 fn index_of(at: Spot) -> usize
@@ -41,7 +42,7 @@ impl Topology {
         ensures refusal { λ r. ⌜ errPart r ≡ port-fault (now (self .entry) .switches) at ⌝ }
         ensures inside { λ r. ⌜ made r (λ _. within (now (self .entry) .switches) at ≡ true) ⌝ }
     {
-        if at.switch >= self.switches || at.port < 1 || at.port > 16 {
+        if at.switch >= self.switches || Port::new(at.port).is_none() {
             return Err(TopologyFault::NoPort(at));
         }
         Ok(())

@@ -5,7 +5,7 @@ use native.Mathlib.Omega.{arith}
 use lib.ListN.{length}
 use Rattle.std.specs.declared.option.Option.{Option}
 use Rattle.std.specs.shelf.Maps.{nth}
-use Rattle.rules.proofs.Lists.{in-front, in-back}
+use Rattle.patterns.proofs.Lists.{in-front, in-back}
 use Rattle.messages.specs.Sent.{Sent}
 use Rattle.plans.specs.Planned.{switches, ports, rules, edges, old-tag, new-tag, planned}
 use Rattle.plans.specs.Series.{installing, flipping, collecting}

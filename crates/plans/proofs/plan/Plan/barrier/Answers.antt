@@ -1,5 +1,5 @@
 use Rattle.std.specs.Iters.{counting}
-use Rattle.rules.proofs.Lists.{mapped-at}
+use Rattle.patterns.proofs.Lists.{mapped-at}
 use Rattle.messages.specs.Sent.{barrier}
 use Rattle.plans.proofs.plan.Plan.barrier.Needs as need
 

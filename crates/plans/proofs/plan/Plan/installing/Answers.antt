@@ -1,5 +1,5 @@
 use mathlib.Core.Path.{_∙_, sym}
-use Rattle.rules.proofs.Lists.{in-front, in-back}
+use Rattle.patterns.proofs.Lists.{in-front, in-back}
 use Rattle.plans.specs.Planned.{switches, ports, rules, old-tag, new-tag}
 use Rattle.plans.specs.Series.{adds, barriers}
 use Rattle.plans.proofs.Sizes.{length-adds}

@@ -3,7 +3,7 @@ use borrow.Author.Needs.{needs}
 use lib.ListN.{length}
 use Rattle.std.proofs.shelf.Results.{err-from-errBy}
 use Rattle.plans.specs.Switches.{On-switches, Off-switches}
-use Rattle.plans.specs.Versions.{tag-of, other}
+use Rattle.plans.specs.Versions.{version-tag, other}
 use Rattle.plans.proofs.Fences.{in-order}
 use Rattle.plans.proofs.Switches.{never-off}
 use Rattle.plans.proofs.plan.Plan.new.Needs as need
@@ -27,6 +27,6 @@ returns c =
     (subst (λ rows. On-switches (c .switches .result) rows (length rows)) (c .rows .ensures) (c .in-Continue-check-switches .ensures tt)) in
     record {
       value = search needs;
-      order = in-order (t .switches) (t .ports) rows (tag-of (c .args .in-force)) (tag-of (other (c .args .in-force))) on;
+      order = in-order (t .switches) (t .ports) rows (version-tag (c .args .in-force)) (version-tag (other (c .args .in-force))) on;
       granted = search needs;
     }

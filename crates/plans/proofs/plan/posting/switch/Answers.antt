@@ -8,7 +8,7 @@ use Rattle.std.proofs.shelf.Maps.{nth-past}
 use Rattle.std.specs.Iters.{counting}
 use Rattle.std.specs.Options.{mapped}
 use Rattle.std.specs.declared.option.Option.the-variants.{Some}
-use Rattle.rules.proofs.Lists.{nth-counting}
+use Rattle.patterns.proofs.Lists.{nth-counting}
 use Rattle.rules.specs.declared.switch.Switch.{Switch}
 use Rattle.plans.proofs.plan.posting.switch.Needs as need
 

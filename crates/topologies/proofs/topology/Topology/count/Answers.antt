@@ -9,15 +9,15 @@ use Rattle.topologies.specs.Ports.{spot-at}
 use Rattle.topologies.proofs.Counts.{count-more, kept}
 use Rattle.topologies.proofs.Spots.{spots-flat}
 use Rattle.topologies.proofs.topology.Topology.count.Needs as need
-use Rattle.topologies.proofs.topology.Topology.count.Needs.{then-is-of, else-is-of}
+use Rattle.topologies.proofs.topology.Topology.count.Needs.{then-is-at, else-is-at}
 
 pub loop-i-again : need.loop-i-again
 loop-i-again c =
     let inv = c .loop-i .inv in
     let more = count-more (c .args .kind) (c .args .self .now .ports) (c .loop-i .i) (c .loop-i .count) in
-    elim (c .if-is-of .came) [
-      | then-is-of w ↦ (w .count-is ∙ more true (sym (c .is-of .ensures) ∙ w .if-is-of .taken) (inv .0), omega (arith, w .count-is))
-      | else-is-of w ↦ (w .count-is ∙ more false (sym (c .is-of .ensures) ∙ w .if-is-of .left) (inv .0), omega (arith, w .count-is))
+    elim (c .if-is-at .came) [
+      | then-is-at w ↦ (w .count-is ∙ more true (sym (c .is-at .ensures) ∙ w .if-is-at .taken) (inv .0), omega (arith, w .count-is))
+      | else-is-at w ↦ (w .count-is ∙ more false (sym (c .is-at .ensures) ∙ w .if-is-at .left) (inv .0), omega (arith, w .count-is))
     ]
 
 pub returns : need.returns

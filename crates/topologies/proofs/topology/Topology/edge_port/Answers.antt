@@ -11,7 +11,7 @@ use Rattle.topologies.specs.declared.spot.Spot.{Spot}
 use Rattle.topologies.proofs.Spots.{spots-flat}
 use Rattle.topologies.proofs.Counts.{spot-within, kept, from, found, skipped, passed}
 use Rattle.topologies.proofs.topology.Topology.edge_port.Needs as need
-use Rattle.topologies.proofs.topology.Topology.edge_port.Needs.{then-is-of·else-left-eq0, else-is-of}
+use Rattle.topologies.proofs.topology.Topology.edge_port.Needs.{then-is-at·else-left-eq0, else-is-at}
 
 pub loop-i-holds : need.loop-i-holds
 loop-i-holds c =
@@ -27,7 +27,7 @@ returns-then-left-eq0 c =
     let rest = from Edge (t .ports) (t .switches * 16) i in
     record {
       value = ap Some (c .spot-at .ensures)
-          ∙ sym (found Edge (t .ports) (t .switches * 16) i (omega arith) (sym (c .is-of .ensures) ∙ c .if-is-of .taken))
+          ∙ sym (found Edge (t .ports) (t .switches * 16) i (omega arith) (sym (c .is-at .ensures) ∙ c .if-is-at .taken))
           ∙ ap (nth rest) (sym (c .if-left-eq0 .taken)) ∙ c .loop-i .inv;
       inside = rw (c .spot-at .ensures) (spot-within (t .switches) i (omega arith));
     }
@@ -38,7 +38,7 @@ loop-i-again c =
     let i = c .loop-i .i in
     let m = t .switches * 16 in
     let here : i < m = omega arith in
-    elim (c .if-is-of .came) [
-      | then-is-of·else-left-eq0 w ↦ ap (nth _) (w .left-is) ∙ sym (passed Edge (t .ports) m i (c .loop-i .left) here (omega (arith, w .if-left-eq0 .left)) (sym (c .is-of .ensures) ∙ w .if-is-of .taken)) ∙ c .loop-i .inv
-      | else-is-of w ↦ ap (nth _) (w .left-is) ∙ sym (skipped Edge (t .ports) m i (c .loop-i .left) here (sym (c .is-of .ensures) ∙ w .if-is-of .left)) ∙ c .loop-i .inv
+    elim (c .if-is-at .came) [
+      | then-is-at·else-left-eq0 w ↦ ap (nth _) (w .left-is) ∙ sym (passed Edge (t .ports) m i (c .loop-i .left) here (omega (arith, w .if-left-eq0 .left)) (sym (c .is-at .ensures) ∙ w .if-is-at .taken)) ∙ c .loop-i .inv
+      | else-is-at w ↦ ap (nth _) (w .left-is) ∙ sym (skipped Edge (t .ports) m i (c .loop-i .left) here (sym (c .is-at .ensures) ∙ w .if-is-at .left)) ∙ c .loop-i .inv
     ]
