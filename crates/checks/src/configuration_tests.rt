@@ -1,4 +1,6 @@
-use crate::samples::open;
+use crate::samples::drop_all;
+use crate::samples::drop_to;
+use crate::samples::refusal;
 use configurations::configuration::Configuration;
 use configurations::fault::ConfigurationFault;
 use rules::row::Row;
@@ -10,17 +12,14 @@ use std::test::*;
 fn many(heap: Global, n: u16) -> Result<Vec<Row>, AllocError> {
     let mut rows = Vec::new(heap);
     for priority in 0..n {
-        rows.push(open(0, priority))?;
+        rows.push(drop_all(0, priority))?;
     }
     Ok(rows)
 }
 
 fn setting(rows: &[Row]) -> u8 {
     let mut configuration = Configuration::new();
-    match configuration.set(rows) {
-        Ok(()) => 0,
-        Err(fault) => fault.number(),
-    }
+    refusal!(configuration.set(rows))
 }
 
 #[test]
@@ -31,19 +30,37 @@ fn at_most_256_rules(rt: LibcRuntime) -> Result<(), Fail> {
     check_eq(setting(rows.as_slice()), 31)
 }
 
+fn too_many(rows: &[Row]) -> Result<usize, Fail> {
+    let mut configuration = Configuration::new();
+    match configuration.set(rows) {
+        Err(ConfigurationFault::TooMany(count)) => Ok(count),
+        _ => Err(Fail::new("not 31")),
+    }
+}
+
 #[test]
-fn too_many_comes_before_a_bad_row(rt: LibcRuntime) -> Result<(), Fail> {
+fn too_many_comes_before_a_bad_row_and_a_clash(rt: LibcRuntime) -> Result<(), Fail> {
     let mut rows = many(rt.alloc(), 256)?;
-    rows.push(open(16, 0))?;
-    check_eq(setting(rows.as_slice()), 31)
+    rows.push(drop_all(16, 0))?;
+    check_eq(setting(rows.as_slice()), 31)?;
+    let mut rows = many(rt.alloc(), 256)?;
+    rows.push(drop_all(0, 0))?;
+    rows.push(drop_all(0, 0))?;
+    check_eq(too_many(rows.as_slice())?, 258)
 }
 
 #[test]
 fn the_lowest_bad_row_is_named_before_any_clash() -> Result<(), Fail> {
-    let rows = [open(0, 1), open(0, 1), open(3, 1), open(16, 1), open(17, 1)];
+    let rows = [
+        drop_all(0, 1),
+        drop_all(0, 1),
+        drop_all(3, 1),
+        drop_all(16, 1),
+        drop_all(17, 1),
+    ];
     let mut configuration = Configuration::new();
     match configuration.set(&rows) {
-        Err(ConfigurationFault::Row(place, fault)) => {
+        Err(ConfigurationFault::Row { place, fault }) => {
             check_eq(place, 3)?;
             check_eq(fault.number(), 21)
         }
@@ -51,24 +68,32 @@ fn the_lowest_bad_row_is_named_before_any_clash() -> Result<(), Fail> {
     }
 }
 
+fn clash(rows: &[Row]) -> Result<(usize, usize), Fail> {
+    let mut configuration = Configuration::new();
+    match configuration.set(rows) {
+        Err(ConfigurationFault::Clash { later, earlier }) => Ok((later, earlier)),
+        _ => Err(Fail::new("no clash")),
+    }
+}
+
+// The rule at 3 clashes with those at 0 and 2, the one at 4 with that at 1.
 #[test]
 fn the_lowest_later_place_then_the_lowest_earlier() -> Result<(), Fail> {
     let rows = [
-        open(0, 5),
-        open(1, 5),
-        open(2, 5),
-        open(1, 5),
-        open(1, 5),
-        open(0, 5),
+        drop_to(0, 5, 0x0a00_0000, 9),
+        drop_all(1, 5),
+        drop_to(0, 5, 0x0a80_0000, 9),
+        drop_to(0, 5, 0x0a00_0000, 8),
+        drop_all(1, 5),
     ];
-    let mut configuration = Configuration::new();
-    match configuration.set(&rows) {
-        Err(ConfigurationFault::Clash(later, earlier)) => {
-            check_eq(later, 3)?;
-            check_eq(earlier, 1)
-        }
-        _ => Err(Fail::new("no clash")),
-    }
+    let (later, earlier) = clash(&rows)?;
+    check(later == 3 && earlier == 0)
+}
+
+#[test]
+fn equal_priority_is_granted_where_patterns_do_not_meet() -> Result<(), Fail> {
+    let rows = [drop_to(0, 5, 0x0a00_0000, 9), drop_to(0, 5, 0x0a80_0000, 9)];
+    check_eq(setting(&rows), 0)
 }
 
 // Whether the first setting is granted and the second is not.
@@ -82,7 +107,7 @@ fn only_first<'a>(
 
 #[test]
 fn a_refused_setting_leaves_the_configuration() -> Result<(), Fail> {
-    let rows = [open(0, 1), open(0, 2), open(0, 2)];
+    let rows = [drop_all(0, 1), drop_all(0, 2), drop_all(0, 2)];
     let mut configuration = Configuration::new();
     check(only_first(&mut configuration, &rows[0..2], &rows[0..3]))?;
     check_eq(configuration.len(), 2)?;

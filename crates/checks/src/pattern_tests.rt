@@ -39,8 +39,14 @@ fn halves_of_a_block_do_not_meet() -> Result<(), Fail> {
 fn the_empty_prefix_admits_all() -> Result<(), Fail> {
     let all = prefix(0, 0)?;
     check(all.admits(&0))?;
-    check(all.admits(&0xffff_ffff))?;
+    check(all.admits(&0xffff_ffff))
+}
+
+#[test]
+fn no_prefix_beyond_its_limits() -> Result<(), Fail> {
+    check(Prefix::new(0, 32).is_some())?;
     check(Prefix::new(0, 33).is_none())?;
+    check(Prefix::new(2, 31).is_some())?;
     check(Prefix::new(1, 31).is_none())
 }
 
@@ -55,5 +61,7 @@ fn numbers_and_pairs_overlap_by_their_halves() -> Result<(), Fail> {
     let low = prefix(0x0a00_0000, 9)?;
     let all = prefix(0, 0)?;
     check(overlap(&Pair(tcp, low), &Pair(any, all)))?;
-    check(!overlap(&Pair(tcp, low), &Pair(udp, all)))
+    check(!overlap(&Pair(tcp, low), &Pair(udp, all)))?;
+    let high = prefix(0x0a80_0000, 9)?;
+    check(!overlap(&Pair(tcp, low), &Pair(any, high)))
 }

@@ -1,10 +1,15 @@
-use crate::samples::open;
+use crate::samples::drop_all;
+use crate::samples::refusal;
 use configurations::configuration::Configuration;
 use example::site;
+use messages::add::Add;
 use plans::plan::Plan;
+use plans::plan::heading::HeadingDisplay;
+use plans::plan::sum::SumDisplay;
 use plans::version::Version;
 use rules::row::Action;
 use rules::row::Row;
+use rules::rule::Rule;
 use std::test::*;
 use topologies::spot::Spot;
 use topologies::topology::Topology;
@@ -12,10 +17,7 @@ use topologies::topology::Topology;
 fn planning<'a>(topology: &'a Topology, rows: &'a [Row]) -> Result<u8, Fail> {
     let mut configuration = Configuration::new();
     check(configuration.set(rows).is_ok())?;
-    match Plan::new(topology, configuration, Version::First) {
-        Ok(_) => Ok(0),
-        Err(fault) => Ok(fault.number()),
-    }
+    Ok(refusal!(Plan::new(topology, configuration, Version::First)))
 }
 
 #[test]
@@ -23,10 +25,10 @@ fn a_rule_off_the_topology_is_refused() -> Result<(), Fail> {
     let Ok(topology) = site::topology() else {
         return Err(Fail::new("no site"));
     };
-    check_eq(planning(&topology, &[open(1, 1)])?, 0)?;
-    check_eq(planning(&topology, &[open(2, 1)])?, 72)?;
+    check_eq(planning(&topology, &[drop_all(1, 1)])?, 0)?;
+    check_eq(planning(&topology, &[drop_all(2, 1)])?, 72)?;
     let mut configuration = Configuration::new();
-    let rows = [open(0, 1), open(5, 1), open(2, 1)];
+    let rows = [drop_all(0, 1), drop_all(5, 1), drop_all(2, 1)];
     check(configuration.set(&rows).is_ok())?;
     match Plan::new(&topology, configuration, Version::First) {
         Ok(_) => Err(Fail::new("granted")),
@@ -61,14 +63,14 @@ fn lengths_and_tags_of_an_update_back() -> Result<(), Fail> {
     };
     check(topology.edge(Spot { switch: 0, port: 3 }).is_ok())?;
     let rows = [
-        open(0, 1),
+        drop_all(0, 1),
         Row {
             action: Action::Out(2),
-            ..open(0, 2)
+            ..drop_all(0, 2)
         },
         Row {
             action: Action::Out(3),
-            ..open(0, 3)
+            ..drop_all(0, 3)
         },
     ];
     let mut configuration = Configuration::new();
@@ -88,4 +90,56 @@ fn lengths_and_tags_of_an_update_back() -> Result<(), Fail> {
         }
         Err(_) => Err(Fail::new("refused")),
     }
+}
+
+// Five numbers that all differ, so that none can stand for another.
+#[test]
+fn the_heading_and_the_sum_of_a_larger_site(rt: LibcRuntime) -> Result<(), Fail> {
+    let Ok(mut topology) = Topology::new(5) else {
+        return Err(Fail::new("no topology"));
+    };
+    for port in 1..=3 {
+        check(topology.edge(Spot { switch: 4, port }).is_ok())?;
+    }
+    check(
+        topology
+            .link(Spot { switch: 0, port: 1 }, Spot { switch: 1, port: 1 })
+            .is_ok(),
+    )?;
+    check(
+        topology
+            .link(Spot { switch: 3, port: 2 }, Spot { switch: 2, port: 9 })
+            .is_ok(),
+    )?;
+    let rows = [
+        drop_all(0, 1),
+        drop_all(0, 2),
+        drop_all(1, 1),
+        drop_all(4, 9),
+    ];
+    let mut configuration = Configuration::new();
+    check(configuration.set(&rows).is_ok())?;
+    match Plan::new(&topology, configuration, Version::Second) {
+        Ok(plan) => {
+            let heading = plan.heading().to_string(rt.alloc())?;
+            check_eq(
+                heading.as_str(),
+                "switches 5, edge ports 3, links 2, rules 4, tag 2 to tag 1",
+            )?;
+            let sum = plan.sum().to_string(rt.alloc())?;
+            check_eq(
+                sum.as_str(),
+                "sum 27: 4 for rules, 3 for edge ports, 20 for switches",
+            )
+        }
+        Err(_) => Err(Fail::new("refused")),
+    }
+}
+
+#[test]
+fn a_drop_is_never_marked_strip() -> Result<(), Fail> {
+    let Ok(rule) = Rule::new(drop_all(0, 1)) else {
+        return Err(Fail::new("no rule"));
+    };
+    check(!Add::new(Version::First.tag(), rule, true).strip())
 }

@@ -1,6 +1,10 @@
 use crate::samples::OPEN;
+use crate::samples::drop_to;
+use crate::samples::refusal;
 use patterns::number::Number;
+use patterns::number::NumberPartialEq;
 use patterns::port::Port;
+use rules::fault::RuleFault;
 use rules::header::Header;
 use rules::row::Action;
 use rules::row::Block;
@@ -19,12 +23,8 @@ fn row(switch: u8, pattern: PatternRow, action: Action) -> Row {
     }
 }
 
-// The number of the refusal, or 0 where the row makes a rule.
 fn number(row: Row) -> u8 {
-    match Rule::new(row) {
-        Ok(_) => 0,
-        Err(fault) => fault.number(),
-    }
+    refusal!(Rule::new(row))
 }
 
 fn with_in_port(port: u8) -> PatternRow {
@@ -175,31 +175,91 @@ fn the_first_fault_is_named() -> Result<(), Fail> {
     )
 }
 
-fn tag(number: u16) -> u8 {
-    match Tag::new(number) {
-        Ok(_) => 0,
-        Err(fault) => fault.number(),
+#[test]
+fn the_source_is_named_before_the_destination() -> Result<(), Fail> {
+    let long = PatternRow {
+        source: Block {
+            address: 0,
+            length: 40,
+        },
+        destination: Block {
+            address: 0,
+            length: 50,
+        },
+        ..OPEN
+    };
+    match Rule::new(row(0, long, Action::Drop)) {
+        Err(RuleFault::Length(length)) => check_eq(length, 40)?,
+        _ => return Err(Fail::new("not 23")),
+    }
+    let stray = PatternRow {
+        source: Block {
+            address: 3,
+            length: 31,
+        },
+        destination: Block {
+            address: 5,
+            length: 30,
+        },
+        ..OPEN
+    };
+    match Rule::new(row(0, stray, Action::Drop)) {
+        Err(RuleFault::StrayBit { address, length }) => check(address == 3 && length == 31),
+        _ => Err(Fail::new("not 24")),
+    }
+}
+
+#[test]
+fn refusals_of_a_rule_carry_what_is_at_fault() -> Result<(), Fail> {
+    match Rule::new(row(200, OPEN, Action::Drop)) {
+        Err(RuleFault::Switch(switch)) => check_eq(switch, 200)?,
+        _ => return Err(Fail::new("not 21")),
+    }
+    match Rule::new(row(0, with_in_port(99), Action::Drop)) {
+        Err(RuleFault::InPort(port)) => check_eq(port, 99)?,
+        _ => return Err(Fail::new("not 22")),
+    }
+    match Rule::new(row(0, with_port(Number::Fixed(1), 443), Action::Drop)) {
+        Err(RuleFault::PortWithoutTransport { port, protocol }) => {
+            check(port == 443 && protocol == Number::Fixed(1))?
+        }
+        _ => return Err(Fail::new("not 25")),
+    }
+    match Rule::new(row(0, OPEN, Action::Out(44))) {
+        Err(RuleFault::OutPort(port)) => check_eq(port, 44),
+        _ => Err(Fail::new("not 26")),
     }
 }
 
 #[test]
 fn tags_are_1_to_4094() -> Result<(), Fail> {
-    check_eq(tag(0), 29)?;
-    check_eq(tag(1), 0)?;
-    check_eq(tag(4094), 0)?;
-    check_eq(tag(4095), 29)
+    check_eq(refusal!(Tag::new(0)), 29)?;
+    check_eq(refusal!(Tag::new(1)), 0)?;
+    check_eq(refusal!(Tag::new(4094)), 0)?;
+    check_eq(refusal!(Tag::new(4095)), 29)?;
+    match Tag::new(5000) {
+        Err(fault) => check_eq(fault.tag, 5000),
+        Ok(_) => Err(Fail::new("a tag")),
+    }
 }
 
+// A rule that fixes all five parts, and packets that differ from what it admits in one.
 #[test]
-fn a_rule_admits_its_packets() -> Result<(), Fail> {
-    let to_till = PatternRow {
+fn a_rule_admits_what_all_five_parts_admit() -> Result<(), Fail> {
+    let pattern = PatternRow {
+        in_port: Number::Fixed(3),
+        source: Block {
+            address: 0xc0a8_0000,
+            length: 16,
+        },
         destination: Block {
             address: 0x0a01_0000,
             length: 16,
         },
-        ..with_in_port(3)
+        protocol: Number::Fixed(6),
+        destination_port: Number::Fixed(443),
     };
-    let Ok(rule) = Rule::new(row(0, to_till, Action::Drop)) else {
+    let Ok(rule) = Rule::new(row(0, pattern, Action::Drop)) else {
         return Err(Fail::new("no rule"));
     };
     let Some(three) = Port::new(3) else {
@@ -208,17 +268,78 @@ fn a_rule_admits_its_packets() -> Result<(), Fail> {
     let Some(four) = Port::new(4) else {
         return Err(Fail::new("no port 4"));
     };
-    let inside = Header {
-        source: 7,
+    let packet = Header {
+        source: 0xc0a8_0105,
         destination: 0x0a01_0203,
         protocol: 6,
         destination_port: 443,
     };
-    let outside = Header {
-        destination: 0x0a02_0001,
-        ..inside
-    };
-    check(rule.admits(three, inside))?;
-    check(!rule.admits(four, inside))?;
-    check(!rule.admits(three, outside))
+    check(rule.admits(three, packet))?;
+    check(!rule.admits(four, packet))?;
+    check(
+        !rule.admits(
+            three,
+            Header {
+                source: 0xc0a9_0105,
+                ..packet
+            },
+        ),
+    )?;
+    check(
+        !rule.admits(
+            three,
+            Header {
+                destination: 0x0a02_0001,
+                ..packet
+            },
+        ),
+    )?;
+    check(
+        !rule.admits(
+            three,
+            Header {
+                protocol: 17,
+                ..packet
+            },
+        ),
+    )?;
+    check(
+        !rule.admits(
+            three,
+            Header {
+                destination_port: 80,
+                ..packet
+            },
+        ),
+    )
+}
+
+fn clash(a: Row, b: Row) -> Result<bool, Fail> {
+    match Rule::new(a) {
+        Ok(first) => match Rule::new(b) {
+            Ok(second) => Ok(first.clashes(second)),
+            Err(_) => Err(Fail::new("no second rule")),
+        },
+        Err(_) => Err(Fail::new("no first rule")),
+    }
+}
+
+#[test]
+fn rules_clash_by_switch_priority_and_pattern() -> Result<(), Fail> {
+    let low = drop_to(1, 7, 0x0a00_0000, 9);
+    let high = drop_to(1, 7, 0x0a80_0000, 9);
+    let both = drop_to(1, 7, 0x0a00_0000, 8);
+    check(clash(low, both)?)?;
+    check(clash(both, high)?)?;
+    check(!clash(low, high)?)?;
+    check(!clash(low, Row { switch: 2, ..both })?)?;
+    check(
+        !clash(
+            low,
+            Row {
+                priority: 8,
+                ..both
+            },
+        )?,
+    )
 }

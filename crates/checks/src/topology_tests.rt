@@ -1,3 +1,4 @@
+use crate::samples::refusal;
 use std::test::*;
 use topologies::fault::TopologyFault;
 use topologies::spot::PortUse;
@@ -5,17 +6,11 @@ use topologies::spot::Spot;
 use topologies::topology::Topology;
 
 fn number(r: Result<(), TopologyFault>) -> u8 {
-    match r {
-        Ok(()) => 0,
-        Err(fault) => fault.number(),
-    }
+    refusal!(r)
 }
 
 fn making(switches: u8) -> u8 {
-    match Topology::new(switches) {
-        Ok(_) => 0,
-        Err(fault) => fault.number(),
-    }
+    refusal!(Topology::new(switches))
 }
 
 fn at(switch: u8, port: u8) -> Spot {
@@ -34,7 +29,11 @@ fn one_to_sixteen_switches() -> Result<(), Fail> {
     check_eq(making(0), 35)?;
     check_eq(making(1), 0)?;
     check_eq(making(16), 0)?;
-    check_eq(making(17), 35)
+    check_eq(making(17), 35)?;
+    match Topology::new(40) {
+        Err(TopologyFault::Switches(n)) => check_eq(n, 40),
+        _ => Err(Fail::new("not 35")),
+    }
 }
 
 #[test]
@@ -62,6 +61,29 @@ fn links_refuse_in_order() -> Result<(), Fail> {
     check_eq(number(t.link(at(0, 2), at(1, 2))), 0)?;
     check_eq(number(t.edge(at(1, 2))), 34)?;
     check_eq(t.link_count(), 1)
+}
+
+// The port that a refusal names, or 0/0.
+fn named(r: Result<(), TopologyFault>) -> (u8, u8) {
+    match r {
+        Err(TopologyFault::NoPort(s)) => (s.switch, s.port),
+        Err(TopologyFault::Used(s)) => (s.switch, s.port),
+        _ => (0, 0),
+    }
+}
+
+#[test]
+fn refusals_of_a_link_name_the_first_end_that_is_at_fault() -> Result<(), Fail> {
+    let mut t = site(2)?;
+    check_eq(number(t.edge(at(0, 1))), 0)?;
+    check_eq(number(t.edge(at(1, 1))), 0)?;
+    check_eq(named(t.link(at(8, 8), at(9, 9))), (8, 8))?;
+    check_eq(named(t.link(at(0, 1), at(9, 9))), (9, 9))?;
+    check_eq(named(t.link(at(1, 1), at(0, 1))), (1, 1))?;
+    check_eq(named(t.link(at(1, 2), at(0, 1))), (0, 1))?;
+    check_eq(named(t.link(at(1, 2), at(1, 2))), (1, 2))?;
+    check_eq(refusal!(t.port_use(at(2, 1))), 33)?;
+    check_eq(refusal!(t.port_use(at(1, 16))), 0)
 }
 
 fn is_linked_with(t: &Topology, here: Spot, there: Spot) -> bool {
