@@ -17,13 +17,14 @@ use Rattle.messages.specs.Sent.{Sent, add, stamp, remove, barrier}
 
 -- Here n is the number of switches, and `ports` says what each port is used for.
 
-abbrev pub is-edge-port : ℕ → List PortUse → ℕ → Action → Bool
-is-edge-port n ports switch Drop = false
-is-edge-port n ports switch (Out p) = let s : Spot = record { switch = switch; port = p } in within n s && is-of kind.Edge s (use-of ports s)
+-- An action of a switch sends to an edge port.
+abbrev pub to-edge-port : ℕ → List PortUse → ℕ → Action → Bool
+to-edge-port n ports switch Drop = false
+to-edge-port n ports switch (Out p) = let s : Spot = record { switch = switch; port = p } in within n s && is-of kind.Edge s (use-of ports s)
 
 -- An add per rule, in configuration order, marked strip exactly when its out port is an edge port.
 abbrev pub add-of : ℕ → List PortUse → ℕ → Row → Sent
-add-of n ports tag r = add tag r (is-edge-port n ports (r .switch) (r .action))
+add-of n ports tag r = add tag r (to-edge-port n ports (r .switch) (r .action))
 
 abbrev pub adds : ℕ → List PortUse → List Row → ℕ → List Sent
 adds n ports rules tag = map (add-of n ports tag) rules

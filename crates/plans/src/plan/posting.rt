@@ -6,7 +6,7 @@ ghost use Rattle.rules.specs.declared.switch.Switch.{Switch};
 ghost use Rattle.messages.specs.Lines.{line-of};
 ghost use Rattle.messages.specs.Sent.{sent};
 ghost use Rattle.plans.specs.Planned.{switches, ports, rules, old-tag, new-tag, planned};
-ghost use Rattle.plans.specs.Series.{is-edge-port, adds, barriers, removes, stamps, installing, flipping, collecting, with-xid};
+ghost use Rattle.plans.specs.Series.{to-edge-port, adds, barriers, removes, stamps, installing, flipping, collecting, with-xid};
 use crate::plan::Plan;
 use messages::add::Add;
 use messages::line::Line;
@@ -21,7 +21,7 @@ use topologies::topology::Topology;
 
 // Whether a rule's out port is an edge port.
 fn leaves(topology: &Topology, rule: Rule) -> bool
-    ensures { λ r. ⌜ r ≡ is-edge-port (now (topology .entry) .switches) (now (topology .entry) .ports) (rule .row .switch) (rule .row .action) ⌝ }
+    ensures { λ r. ⌜ r ≡ to-edge-port (now (topology .entry) .switches) (now (topology .entry) .ports) (rule .row .switch) (rule .row .action) ⌝ }
 {
     let row = rule.row();
     match row.action {

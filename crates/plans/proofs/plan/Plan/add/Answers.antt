@@ -9,7 +9,7 @@ use Rattle.rules.specs.declared.rule.Rule.{Rule}
 use Rattle.rules.specs.declared.tag.Tag.{Tag}
 use Rattle.topologies.specs.declared.spot.PortUse.{PortUse}
 use Rattle.messages.specs.Marks.{goes-out}
-use Rattle.plans.specs.Series.{is-edge-port, add-of}
+use Rattle.plans.specs.Series.{to-edge-port, add-of}
 use Rattle.plans.specs.Versions.{version-tag, other}
 use Rattle.plans.proofs.plan.Plan.add.Needs as need
 
@@ -20,7 +20,7 @@ returns-in-Break-rule c =
     rw (c .from-residual .ensures) (mapped-at (add-of (t .switches) (t .ports) (version-tag (other (p .«in_force»)))) (p .configuration .rows .now) (c .args .place) _ (c .in-Break-rule .ensures tt))
 
 -- A drop has no out port, so the mark that is left off was not set.
-mark-stays : (n : ℕ) (ports : List PortUse) (switch : ℕ) (a : Action) → (goes-out a && is-edge-port n ports switch a) ≡ is-edge-port n ports switch a
+mark-stays : (n : ℕ) (ports : List PortUse) (switch : ℕ) (a : Action) → (goes-out a && to-edge-port n ports switch a) ≡ to-edge-port n ports switch a
 mark-stays n ports switch Drop = refl
 mark-stays n ports switch (Out p) = refl
 
@@ -31,6 +31,6 @@ returns c =
     let rule = c .in-Continue-rule .rule in
     let tag : c .new .result .tag .number ≡ version-tag (other (p .«in_force»)) = ap (λ (t : Tag). t .number) (c .new .ensures .0) ∙ c .tag .ensures ∙ ap version-tag (c .other .ensures .value) in
     let row : c .new .result .rule .row ≡ rule .row = ap (λ (r : Rule). r .row) (c .new .ensures .1) in
-    let strip : c .new .result .strip ≡ is-edge-port (t .switches) (t .ports) (rule .row .switch) (rule .row .action) =
+    let strip : c .new .result .strip ≡ to-edge-port (t .switches) (t .ports) (rule .row .switch) (rule .row .action) =
     c .new .ensures .2 ∙ ap (λ b. goes-out (rule .row .action) && b) (c .leaves-strip .ensures) ∙ mark-stays (t .switches) (t .ports) (rule .row .switch) (rule .row .action) in
     rw (tag, row, strip) (mapped-at (add-of (t .switches) (t .ports) (version-tag (other (p .«in_force»)))) (p .configuration .rows .now) (c .args .place) _ (c .in-Continue-rule .ensures tt))
