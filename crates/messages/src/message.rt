@@ -63,3 +63,8 @@ impl Message {
         }
     }
 }
+
+// Holds that a message's numbers tell it from every other, so that a contract on `sent` says which message it is.
+pub fn numbers_tell_messages()
+    ensures { λ _. ⌜ ((a b : Message) → sent a ≡ sent b → a ≡ b) ⌝ }
+{}

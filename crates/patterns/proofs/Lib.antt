@@ -1,3 +1,4 @@
 pub mod Tests
 pub mod Starts
 pub mod Lists
+pub mod Limited
