@@ -243,42 +243,49 @@ fn tags_are_1_to_4094() -> Result<(), Fail> {
     }
 }
 
-// A rule that fixes all five parts, and packets that differ from what it admits in one.
+fn rule_of(pattern: PatternRow) -> Result<Rule, Fail> {
+    match Rule::new(row(0, pattern, Action::Drop)) {
+        Ok(rule) => Ok(rule),
+        Err(_) => Err(Fail::new("no rule")),
+    }
+}
+
+fn port(number: u8) -> Result<Port, Fail> {
+    match Port::new(number) {
+        Some(port) => Ok(port),
+        None => Err(Fail::new("no port")),
+    }
+}
+
+const FIXED: PatternRow = PatternRow {
+    in_port: Number::Fixed(3),
+    source: Block {
+        address: 0xc0a8_0000,
+        length: 16,
+    },
+    destination: Block {
+        address: 0x0a01_0000,
+        length: 16,
+    },
+    protocol: Number::Fixed(6),
+    destination_port: Number::Fixed(443),
+};
+
+// Packets that differ from what a rule admits in one of its five parts.
 #[test]
 fn a_rule_admits_what_all_five_parts_admit() -> Result<(), Fail> {
-    let pattern = PatternRow {
-        in_port: Number::Fixed(3),
-        source: Block {
-            address: 0xc0a8_0000,
-            length: 16,
-        },
-        destination: Block {
-            address: 0x0a01_0000,
-            length: 16,
-        },
-        protocol: Number::Fixed(6),
-        destination_port: Number::Fixed(443),
-    };
-    let Ok(rule) = Rule::new(row(0, pattern, Action::Drop)) else {
-        return Err(Fail::new("no rule"));
-    };
-    let Some(three) = Port::new(3) else {
-        return Err(Fail::new("no port 3"));
-    };
-    let Some(four) = Port::new(4) else {
-        return Err(Fail::new("no port 4"));
-    };
+    let rule = rule_of(FIXED)?;
     let packet = Header {
         source: 0xc0a8_0105,
         destination: 0x0a01_0203,
         protocol: 6,
         destination_port: 443,
     };
-    check(rule.admits(three, packet))?;
-    check(!rule.admits(four, packet))?;
+    check(rule.admits(port(3)?, packet))?;
+    check(!rule.admits(port(4)?, packet))?;
     check(
         !rule.admits(
-            three,
+            port(3)?,
             Header {
                 source: 0xc0a9_0105,
                 ..packet
@@ -287,7 +294,7 @@ fn a_rule_admits_what_all_five_parts_admit() -> Result<(), Fail> {
     )?;
     check(
         !rule.admits(
-            three,
+            port(3)?,
             Header {
                 destination: 0x0a02_0001,
                 ..packet
@@ -296,7 +303,7 @@ fn a_rule_admits_what_all_five_parts_admit() -> Result<(), Fail> {
     )?;
     check(
         !rule.admits(
-            three,
+            port(3)?,
             Header {
                 protocol: 17,
                 ..packet
@@ -305,7 +312,7 @@ fn a_rule_admits_what_all_five_parts_admit() -> Result<(), Fail> {
     )?;
     check(
         !rule.admits(
-            three,
+            port(3)?,
             Header {
                 destination_port: 80,
                 ..packet

@@ -1,19 +1,20 @@
 -- Messages are told by their numbers, since the parts that carry limits are.
-use mathlib.Core.Path.{_≡_, ap, subst}
+use mathlib.Core.Path.{_≡_, ap}
 use mathlib.Core.Bool.{true, false, not, Bool-set}
 use mathlib.Core.HLevel.{isProp→PathP, →-prop}
-use Prim.Native.Nat.{ℕ, _≤_}
+use Prim.Native.Nat.{_≤_}
 use native.Mathlib.Bridge.{le-prop}
 use lib.Dec.{T, eqb}
-use Rattle.std.proofs.shelf.Tests.{eq-eqb}
 use Rattle.std.specs.Options.{isSome}
 use Rattle.patterns.proofs.Limited.{between, port-told}
 use Rattle.rules.specs.Limits.{Makes, row-fault}
 use Rattle.rules.specs.declared.rule.Rule.{Rule}
 use Rattle.rules.specs.declared.switch.Switch.{Switch}
 use Rattle.rules.specs.declared.tag.Tag.{Tag}
+use Rattle.messages.proofs.Apart.{rank, apart}
+use Rattle.messages.specs.Lines.{kind-of}
 use Rattle.messages.specs.Marks.{goes-out}
-use Rattle.messages.specs.Sent.{Sent, add, stamp, remove, barrier, sent}
+use Rattle.messages.specs.Sent.{Sent, sent}
 use Rattle.messages.specs.declared.add.Add.{Add}
 use Rattle.messages.specs.declared.message.Message.{Message}
 use Rattle.messages.specs.declared.message.Message.the-variants as message
@@ -35,14 +36,8 @@ added a b p q r = λ i. record {
   marked = isProp→PathP (λ i. T (r i) → goes-out (q i .row .action) ≡ true) (λ i. →-prop (Bool-set (goes-out (q i .row .action)) true)) (a .marked) (b .marked) i;
 }
 
-abbrev rank : Sent → ℕ
-rank (add t r m) = 0
-rank (stamp s p t) = 1
-rank (remove s t) = 2
-rank (barrier s) = 3
-
-never : {A : Type 0} (m n : Sent) → T (not (eqb (rank m) (rank n))) → m ≡ n → A
-never m n t e = absurd (subst T (ap not (eq-eqb (rank m) (rank n) (ap rank e))) t)
+never : {A : Type 0} (m n : Sent) → T (not (eqb (rank (kind-of m)) (rank (kind-of n)))) → m ≡ n → A
+never m n t e = absurd (apart (kind-of m) (kind-of n) t (ap kind-of e))
 
 pub told : (a b : Message) → sent a ≡ sent b → a ≡ b
 told (message.Add a) (message.Add b) e =

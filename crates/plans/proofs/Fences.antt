@@ -3,13 +3,11 @@ use mathlib.Core.Path.{_≡_, sym, ap, _∙_, subst, refl}
 use mathlib.Core.List.{List, [], _++_, map}
 use mathlib.Core.Logic.{inl, inr}
 use Prim.Native.Nat.{ℕ, _+_, _-_, _*_, _<_, _≤_}
-use mathlib.Core.Bool.{not}
 use native.Mathlib.Omega.{arith}
-use lib.Dec.{T, eqb}
 use lib.ListN.{length, length-append}
 use Rattle.std.proofs.shelf.Elements.{all-append, all-map, all-kept-by, all-weaker}
 use Rattle.std.proofs.shelf.Lists.{append-assoc, append-nil}
-use Rattle.std.proofs.shelf.Tests.{cases-lt, ltb-true, eq-eqb}
+use Rattle.std.proofs.shelf.Tests.{cases-lt, ltb-true}
 use Rattle.std.specs.Iters.{counting}
 use Rattle.std.specs.declared.option.Option.the-variants.{Some}
 use Rattle.std.specs.Options.{mapped}
@@ -21,6 +19,7 @@ use Rattle.topologies.proofs.Spots.{spots-flat}
 use Rattle.topologies.specs.Ports.{spot-at, spots, edge-ports}
 use Rattle.topologies.specs.declared.spot.PortUse.{PortUse}
 use Rattle.topologies.specs.declared.spot.Spot.{Spot}
+use Rattle.messages.proofs.Apart.{apart}
 use Rattle.messages.specs.Lines.{kind-of, tag-of}
 use Rattle.messages.specs.Sent.{Sent, barrier, switch-of}
 use Rattle.messages.specs.declared.line.Kind.{Kind}
@@ -32,15 +31,6 @@ use Rattle.plans.proofs.Sizes.{length-barriers}
 
 barrier-at : (n s : ℕ) → s < n → nth (barriers n) s ≡ Some (barrier s)
 barrier-at n s h = nth-map barrier (counting 0 n) s ∙ ap (mapped barrier) (nth-counting n s h)
-
-abbrev rank : Kind → ℕ
-rank kind.Add = 0
-rank kind.Stamp = 1
-rank kind.Remove = 2
-rank kind.Barrier = 3
-
-apart : (k l : Kind) → T (not (eqb (rank k) (rank l))) → k ≡ l → ⊥
-apart k l t e = subst T (ap not (eq-eqb (rank k) (rank l) (ap rank e))) t
 
 -- No message of a list is of a kind; those of a kind go to switches below n, or carry a tag.
 abbrev Free : Kind → Sent → Type 0
