@@ -1,4 +1,6 @@
 // What the reader of the wire answers, as text: a line for a message, a reply or a refusal.
+#![tactic(auto)]
+
 mod added;
 pub mod answer;
 mod cidr;

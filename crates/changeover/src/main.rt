@@ -1,4 +1,6 @@
 // Plans the example update and prints it: a heading, a line for each message, the sum, and the script.
+#![tactic(auto)]
+
 use configurations::configuration::Configuration;
 use example::site;
 use openflow::pdu::Pdu;

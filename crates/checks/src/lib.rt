@@ -1,4 +1,6 @@
 // Tests over the libraries, in a crate of their own, so that the libraries are proved once.
+#![tactic(auto)]
+
 #[cfg(test)]
 mod accepted;
 #[cfg(test)]

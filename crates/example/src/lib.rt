@@ -1,3 +1,5 @@
 // The example site, and worked cases under the definitions.
+#![tactic(auto)]
+
 pub mod cases;
 pub mod site;

@@ -1,4 +1,6 @@
 // Reads a script from standard input, and prints what reading answers to each of its lines.
+#![tactic(auto)]
+
 use answers::report::report;
 use std::io;
 use std::io::Read;

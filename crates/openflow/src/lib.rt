@@ -1,4 +1,6 @@
 // OpenFlow 1.0 on the wire: the layout of messages and replies, and writing them.
+#![tactic(auto)]
+
 pub mod fault;
 pub mod flow_mod;
 pub mod frame;

@@ -6,3 +6,4 @@ pub mod Pairs
 pub mod Limited
 pub mod Tests
 pub mod Starts
+pub mod NumberLaws

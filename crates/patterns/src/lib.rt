@@ -1,4 +1,6 @@
 // Patterns over the numbers of a packet, behind one trait: `admits` and `meet`.
+#![tactic(auto)]
+
 pub mod field;
 pub mod number;
 pub mod pair;

@@ -1,4 +1,5 @@
 ghost use Rattle.patterns.specs.Numbers.{admits_number, meet_number, fixed_fits};
+ghost use Rattle.patterns.specs.NumberLaws.{exact as exact_numbers, shared as shared_numbers};
 
 use crate::field::Field;
 use crate::pattern::Pattern;
@@ -20,6 +21,10 @@ impl<T: Field + Drop> Pattern for Number<T> {
     ghost fits = { T.Field.fits };
 
     ghost sound = { fixed_fits T.Field.fits };
+
+    ghost exact = { exact_numbers T.Field.same T.Field.reflexive T.Field.identical };
+
+    ghost shared = { shared_numbers T.Field.same T.Field.reflexive T.Field.identical T.Field.fits T.Field.sample T.Field.held };
 
     fn admits(&self, x: &T) -> bool {
         match *self {

@@ -29,8 +29,8 @@ pub trait Pattern: Sized {
 
 // Whether some subject is admitted by both: one text for every kind of pattern.
 pub fn overlap<P: Pattern + Drop>(a: &P, b: &P) -> bool
-    ensures value { result ≡ is_some (meeting a.now b.now) }
-    ensures cases { MatchBool result (P.Pattern.sound a.now → P.Pattern.sound b.now → (x : P.Subject) × (P.Pattern.fits x × ((admitting a.now x && admitting b.now x) ≡ true))) ((x : P.Subject) → (admitting a.now x && admitting b.now x) ≡ false) }
+    ensures value { result ≡ is_some (P.meeting a.now b.now) }
+    ensures cases { MatchBool result (P.Pattern.sound a.now → P.Pattern.sound b.now → (x : P.Subject) × (P.Pattern.fits x × ((P.admitting a.now x && P.admitting b.now x) ≡ true))) ((x : P.Subject) → (P.admitting a.now x && P.admitting b.now x) ≡ false) }
 {
     a.meet(b).is_some()
 }

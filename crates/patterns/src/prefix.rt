@@ -24,7 +24,7 @@ fn starts(length: u8, a: u32, x: u32) -> bool
 
 // The shorter of two prefixes and then the other; where they are as long, in the order given.
 fn by_length(a: Prefix, b: Prefix) -> (Prefix, Prefix)
-    ensures { result ≡ (if nat_le a.length b.length then a, b else b, a) }
+    ensures { result ≡ (if nat_le a.length b.length then (a, b) else (b, a)) }
 {
     if a.length <= b.length { (a, b) } else { (b, a) }
 }

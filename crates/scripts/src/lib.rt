@@ -1,4 +1,6 @@
 // The text form of a script: a line for each message, with its switch and its bytes in hex.
+#![tactic(auto)]
+
 mod bytes;
 pub mod entry;
 mod hex;

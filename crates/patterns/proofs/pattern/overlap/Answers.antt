@@ -10,7 +10,7 @@ pub returns : goal.returns
 returns g c =
     let a = c.args.a.now in
     let b = c.args.b.now in
-    let e : c.is-some.result ≡ is_some (g.P.Pattern.meeting a b) = c.is-some.ensures ∙ ap is_some c.meet.ensures in
+    let e : c.is_some.result ≡ is_some (g.P.Pattern.meeting a b) = c.is_some.ensures ∙ ap is_some c.meet.ensures in
     record {
       value = e;
       cases = rw e (by_meet g.P.Pattern.admitting a b (g.P.Pattern.meeting a b) _ (g.met.P.Pattern.exact a b) (λ t u v. g.met.P.Pattern.shared a b u v t));
