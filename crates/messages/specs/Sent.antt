@@ -3,7 +3,6 @@ use Rattle.std.specs.Prelude.{ℕ, ◌+◌, Bool, cond}
 use Rattle.rules.specs.declared.row.Action.{Action}
 use Rattle.rules.specs.declared.row.Action.TheVariants.{Drop, Out}
 use Rattle.rules.specs.declared.row.Row.{Row}
-use Rattle.messages.specs.declared.add.Add.{Add}
 use Rattle.messages.specs.declared.message.Message.{Message}
 use Rattle.messages.specs.declared.message.Message.TheVariants as message
 

@@ -1,5 +1,5 @@
 -- The limits of a rule: which rows make one, and which refusal the others get.
-use Rattle.std.specs.Prelude.{◌≡◌, ℕ, ◌-◌, Bool, false, cond, ◌||◌, is_some, Some, None, Option, ◌==◌, nat_le}
+use Rattle.std.specs.Prelude.{◌≡◌, ℕ, Bool, false, cond, ◌||◌, is_some, Some, None, Option, ◌==◌, nat_le}
 use Rattle.std.specs.Option.{option_or}
 use Rattle.patterns.specs.Limits.{is_port, is_length, ends_in_zeros}
 use Rattle.patterns.specs.declared.number.Number.{Number}
@@ -12,7 +12,7 @@ use Rattle.rules.specs.declared.fault.RuleFault.{RuleFault}
 use Rattle.rules.specs.declared.fault.RuleFault.TheVariants as fault
 
 -- The refusal where the test fails.
-abbrev pub unless : {F : Type 0} → Bool → F → Option F
+abbrev pub unless : Bool → RuleFault → Option RuleFault
 unless test f = cond test None (Some f)
 
 abbrev pub switch_fault : ℕ → Option RuleFault
