@@ -10,15 +10,15 @@ pub loop-line-preserved : goal.loop-line-preserved
 loop-line-preserved c =
     let shorter = c.in-Some.ensures.shorter in
     let inv = c.loop-line.invariant in
-    let pushed = c.in-ok-push.ensures in (
+    let pushed = c.in_ok-push.ensures in (
       omega (arith, shorter, inv.0),
       λ more left.
           subst (Report 1 c.args.script.now)
-          (line_put _ _ _ _ (string_bytes c.in-ok-said.said) _ more
-          c.in-ok-push-str.ensures.bytes c.as-str.ensures.value pushed.bytes (pushed.ascii (lit< tt)))
-          (inv.1 _ (goes_on _ _ _ (sym c.in-Some.ensures.value) c.in-ok-said.ensures left)),
+          (line_put _ _ _ _ (string_bytes c.in_ok-said.said) _ more
+          c.in_ok-push_str.ensures.bytes c.as_str.ensures.value pushed.bytes (pushed.ascii (lit< tt)))
+          (inv.1 _ (goes_on _ _ _ (sym c.in-Some.ensures.value) c.in_ok-said.ensures left)),
     )
 
 pub returns : goal.returns
 returns c =
-    subst (Report 1 c.args.script.now) (append-nil _) (c.loop-line.invariant.1 [] (ends (sym c.in-default.ensures.value)))
+    subst (Report 1 c.args.script.now) (append-nil _) (c.loop-line.invariant.1 [] (ends (sym c.in_default.ensures.value)))

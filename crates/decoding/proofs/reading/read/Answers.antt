@@ -22,38 +22,38 @@ like false r e f = absurd (true≢false (sym e ∙ f))
 
 pub candidate-requires : goal.candidate-requires
 candidate-requires c =
-    let header = c.in-ok-kind.ensures in
-    header.value.0 ∙ at1_front c.in-ok-kind.field-0.length c.args.bytes.now header.within.0
+    let header = c.in_ok-kind.ensures in
+    header.value.0 ∙ at1_front c.in_ok-kind.field-0.length c.args.bytes.now header.within.0
 
-pub returns-in-err-switch : goal.returns-in-err-switch
-returns-in-err-switch c = record { answer = search rules; law = round_trip }
+pub returns-in_err-switch : goal.returns-in_err-switch
+returns-in_err-switch c = record { answer = search rules; law = round_trip }
 
-pub returns-in-err-kind : goal.returns-in-err-kind
-returns-in-err-kind c = record { answer = search rules; law = round_trip }
+pub returns-in_err-kind : goal.returns-in_err-kind
+returns-in_err-kind c = record { answer = search rules; law = round_trip }
 
-pub returns-in-default : goal.returns-in-default
-returns-in-default c = record { answer = search rules; law = round_trip }
+pub returns-in_default : goal.returns-in_default
+returns-in_default c = record { answer = search rules; law = round_trip }
 
 pub returns-then-ne : goal.returns-then-ne
 returns-then-ne c =
-    let header = c.in-ok-kind.ensures in
-    let n = c.in-ok-kind.field-0.length in
+    let header = c.in_ok-kind.ensures in
+    let n = c.in_ok-kind.field-0.length in
     let b = c.args.bytes.now in
     let (x, matches, e) = c.ne.ensures in
     record {
       answer =
           reads c.args.switch n _ b _
-          c.in-ok-switch.ensures.refusal header.refusal c.in-ok-switch.ensures.value header.value.1 (
+          c.in_ok-switch.ensures.refusal header.refusal c.in_ok-switch.ensures.value header.value.1 (
             refl,
             λ p xid w.
                 let found = c.candidate.ensures.told p xid w in
                 let was = c.in-Some.is in
                 let same : c.in-Some.pdu ≡ p = cc in
-                let xid_is : c.in-ok-kind.field-0.xid ≡ xid =
+                let xid_is : c.in_ok-kind.field-0.xid ≡ xid =
                 header.value.2 ∙ at4_front n b header.within.0 ∙ ap (λ l. at4 l 4) (sym w.is) ∙ xid_told xid w.xid-fits (form p) in
                 let equal =
-                c.as-slice.ensures ∙ c.of-frame.ensures
-                ∙ ap (λ (q : Pdu). wire (carried q) c.in-ok-kind.field-0.xid) same ∙ ap (wire (carried p)) xid_is ∙ w.is in
+                c.as_slice.ensures ∙ c.of-frame.ensures
+                ∙ ap (λ (q : Pdu). wire (carried q) c.in_ok-kind.field-0.xid) same ∙ ap (wire (carried p)) xid_is ∙ w.is in
                 unlike x c.ne.result e c.if-ne.true ((slice_eq-Decides Decides-eqb _ _ x matches).1 equal),
           );
       law = round_trip;
@@ -62,19 +62,19 @@ returns-then-ne c =
 pub returns : goal.returns
 returns c =
     let fits : Fits (carried c.in-Some.pdu) = search rules in
-    let header = c.in-ok-kind.ensures in
-    let n = c.in-ok-kind.field-0.length in
+    let header = c.in_ok-kind.ensures in
+    let n = c.in_ok-kind.field-0.length in
     let b = c.args.bytes.now in
     let (x, matches, e) = c.ne.ensures in
     record {
       answer =
           reads c.args.switch n _ b _
-          c.in-ok-switch.ensures.refusal header.refusal c.in-ok-switch.ensures.value header.value.1 (
+          c.in_ok-switch.ensures.refusal header.refusal c.in_ok-switch.ensures.value header.value.1 (
             record {
               fits = fits;
               xid_fits = search rules;
               to = c.in-Some.ensures.to;
-              is = sym (c.as-slice.ensures ∙ c.of-frame.ensures) ∙ (slice_eq-Decides Decides-eqb _ _ x matches).0 (like x c.ne.result e c.if-ne.false);
+              is = sym (c.as_slice.ensures ∙ c.of-frame.ensures) ∙ (slice_eq-Decides Decides-eqb _ _ x matches).0 (like x c.ne.result e c.if-ne.false);
             },
             front_length n b header.within.1,
           );

@@ -7,31 +7,31 @@ use Rattle.openflow.specs.Fields.{HasFields}
 use Rattle.decoding.proofs.telling.message.Goals as goal
 
 -- The command tells removes from the others, and the VLAN stamps from adds, since a tag is below 0xffff.
-told-in-3 : (c : goal.After-remove-message) (m : Message) → switch_of (sent m) ≡ c.args.switch.number → HasFields (sent m) c.args.f → c.remove-message.result ≡ Some m
+told-in-3 : (c : goal.After-remove_message) (m : Message) → switch_of (sent m) ≡ c.args.switch.number → HasFields (sent m) c.args.f → c.remove_message.result ≡ Some m
 told-in-3 c (message.Add a) to e = absurd (omega (arith, ap (λ f. f.command) e))
 told-in-3 c (message.Stamp s p t) to e = absurd (omega (arith, ap (λ f. f.command) e))
 told-in-3 c (message.Remove s t) to e =
-    c.remove-message.ensures.told t e ∙ ap (λ x. Some (message.Remove x t)) (sym (numbers.switch s c.args.switch to))
+    c.remove_message.ensures.told t e ∙ ap (λ x. Some (message.Remove x t)) (sym (numbers.switch s c.args.switch to))
 told-in-3 c (message.Barrier s) to e = absurd e
 
-told-in-0 : (c : goal.After-stamp-message) (m : Message) → switch_of (sent m) ≡ c.args.switch.number → HasFields (sent m) c.args.f → c.stamp-message.result ≡ Some m
+told-in-0 : (c : goal.After-stamp_message) (m : Message) → switch_of (sent m) ≡ c.args.switch.number → HasFields (sent m) c.args.f → c.stamp_message.result ≡ Some m
 told-in-0 c (message.Add a) to e = absurd (omega (arith, ap (λ f. f.vlan) e, c.if-f-eq65535.true, a.tag.ok.1))
 told-in-0 c (message.Stamp s p t) to e =
-    c.stamp-message.ensures.told p t e ∙ ap (λ x. Some (message.Stamp x p t)) (sym (numbers.switch s c.args.switch to))
+    c.stamp_message.ensures.told p t e ∙ ap (λ x. Some (message.Stamp x p t)) (sym (numbers.switch s c.args.switch to))
 told-in-0 c (message.Remove s t) to e = absurd (omega (arith, ap (λ f. f.command) e))
 told-in-0 c (message.Barrier s) to e = absurd e
 
-told-in-0-2 : (c : goal.After-add-message) (m : Message) → switch_of (sent m) ≡ c.args.switch.number → HasFields (sent m) c.args.f → c.add-message.result ≡ Some m
-told-in-0-2 c (message.Add a) to e = c.add-message.ensures.told a to e
+told-in-0-2 : (c : goal.After-add_message) (m : Message) → switch_of (sent m) ≡ c.args.switch.number → HasFields (sent m) c.args.f → c.add_message.result ≡ Some m
+told-in-0-2 c (message.Add a) to e = c.add_message.ensures.told a to e
 told-in-0-2 c (message.Stamp s p t) to e = absurd (c.if-f-eq65535.false (sym (ap (λ f. f.vlan) e)))
 told-in-0-2 c (message.Remove s t) to e = absurd (omega (arith, ap (λ f. f.command) e))
 told-in-0-2 c (message.Barrier s) to e = absurd e
 
 pub returns-in-3 : goal.returns-in-3
-returns-in-3 c = record { told = told-in-3 c; to = c.remove-message.ensures.to }
+returns-in-3 c = record { told = told-in-3 c; to = c.remove_message.ensures.to }
 
 pub returns-in-0-2 : goal.returns-in-0-2
-returns-in-0-2 c = record { told = told-in-0-2 c; to = c.add-message.ensures.to }
+returns-in-0-2 c = record { told = told-in-0-2 c; to = c.add_message.ensures.to }
 
 pub returns-in-0 : goal.returns-in-0
-returns-in-0 c = record { told = told-in-0 c; to = c.stamp-message.ensures.to }
+returns-in-0 c = record { told = told-in-0 c; to = c.stamp_message.ensures.to }

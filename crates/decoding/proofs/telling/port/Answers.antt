@@ -10,4 +10,4 @@ made (Some q) n t h p e = ap (λ (x : Port). Some x) (port_told q p (h ∙ sym e
 made None n t h p e = absurd (true≢false (sym (t ∙ and_from _ _ (le-leb 1 n (omega arith)) (le-leb n 16 (omega arith)))))
 
 pub returns : goal.returns
-returns c p e = made c.new.result _ c.new.ensures.test c.new.ensures.value p (omega (arith, c.low-byte.ensures))
+returns c p e = made c.new.result _ c.new.ensures.test c.new.ensures.value p (omega (arith, c.low_byte.ensures))

@@ -1,11 +1,11 @@
 use Rattle.std.proofs.Common.{refl, ap, rules}
 use Rattle.decoding.proofs.telling.remove_message.Goals as goal
 
-pub returns-in-err-tag : goal.returns-in-err-tag
-returns-in-err-tag c = record {
+pub returns-in_err-tag : goal.returns-in_err-tag
+returns-in_err-tag c = record {
   told = λ tag e.
       let made = c.tag.ensures tag (ap (λ f. f.vlan) e) in
-      let was = c.in-err-tag.was in
+      let was = c.in_err-tag.was in
       cc;
   to = search rules;
 }
@@ -14,7 +14,7 @@ pub returns : goal.returns
 returns c = record {
   told = λ tag e.
       let made = c.tag.ensures tag (ap (λ f. f.vlan) e) in
-      let was = c.in-ok-tag.was in
+      let was = c.in_ok-tag.was in
       cc;
   to = refl;
 }

@@ -12,10 +12,10 @@ steps a b c d new one two all =
 
 pub returns : goal.returns
 returns c =
-    let new = c.in-ok-site.ensures.value in
-    let one = c.in-ok-edge.ensures.after in
-    let two = c.in-ok-edge-2.ensures.after in
-    let all = c.in-ok-link.ensures.after in
+    let new = c.in_ok-site.ensures.value in
+    let one = c.in_ok-edge.ensures.after in
+    let two = c.in_ok-edge-2.ensures.after in
+    let all = c.in_ok-link.ensures.after in
     record {
       granted = refl;
       value = (all.0 ∙ two.0 ∙ one.0 ∙ new.0, steps _ _ _ _ new.1 one.1 two.1 all.1);

@@ -14,12 +14,12 @@ laid bytes part buffer e h = rw (e, le-leb (length bytes) (length buffer) h, Pos
 
 pub returns : goal.returns
 returns c =
-    let bytes = c.as-slice-bytes.result.now in
+    let bytes = c.as_slice-bytes.result.now in
     let buffer = c.args.buffer.now in
-    let same = c.as-slice-bytes.ensures ∙ c.of-frame.ensures in
+    let same = c.as_slice-bytes.ensures ∙ c.of-frame.ensures in
     record {
       answer = answered bytes buffer (omega arith) ∙ ap (λ b. write_answer b buffer) same;
-      after = laid bytes c.copy-from-slice.new.self buffer c.copy-from-slice.ensures.after (omega arith) ∙ ap (λ b. written_over b buffer) same;
+      after = laid bytes c.copy_from_slice.new.self buffer c.copy_from_slice.ensures.after (omega arith) ∙ ap (λ b. written_over b buffer) same;
       enough = λ _. refl;
       len = ap length same ∙ length-wire (carried c.args.pdu) c.args.xid;
     }

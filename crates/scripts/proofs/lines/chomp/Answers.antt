@@ -5,9 +5,9 @@ use Rattle.scripts.specs.Splits.{chomped}
 use Rattle.scripts.proofs.Splits.{chomped_push}
 use Rattle.scripts.proofs.lines.chomp.Goals as goal
 
-pub returns-in-default : goal.returns-in-default
-returns-in-default c =
-    let empty = nil_from_length c.args.line.now c.in-default.ensures.cases in
+pub returns-in_default : goal.returns-in_default
+returns-in_default c =
+    let empty = nil_from_length c.args.line.now c.in_default.ensures.cases in
     empty ∙ ap chomped (sym empty)
 
 pub returns-then-last-eq13 : goal.returns-then-last-eq13

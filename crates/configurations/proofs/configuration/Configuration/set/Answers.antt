@@ -3,8 +3,8 @@ use Rattle.std.proofs.lemmas.Result.{err_from_is_err_and}
 use Rattle.configurations.proofs.Places.{never_refused}
 use Rattle.configurations.proofs.configuration.Configuration.set.Goals as goal
 
-pub returns-in-err-check : goal.returns-in-err-check
-returns-in-err-check c =
-    let p = err_from_is_err_and c.from-residual.result c.from-residual.ensures.1 in
-    let why = c.in-err-check.ensures in
+pub returns-in_err-check : goal.returns-in_err-check
+returns-in_err-check c =
+    let p = err_from_is_err_and c.from_residual.result c.from_residual.ensures.1 in
+    let why = c.in_err-check.ensures in
     rw (p.1, p.2) record { answer = (why, refl); granted = λ sound. absurd (never_refused c.args.rows.now _ why sound) }

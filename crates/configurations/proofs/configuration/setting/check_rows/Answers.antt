@@ -8,4 +8,4 @@ returns-in-Err c = (c.requires, c.loop-place.invariant, fault_read c.args.rows.n
 pub loop-place-preserved : goal.loop-place-preserved
 loop-place-preserved c =
     below_more _ _ c.loop-place.invariant
-    (ap is_some (fault_read c.args.rows.now c.loop-place.place _ c.loop-place-test.true ∙ sym c.in-default.ensures.refusal))
+    (ap is_some (fault_read c.args.rows.now c.loop-place.place _ c.loop-place-test.true ∙ sym c.in_default.ensures.refusal))

@@ -6,9 +6,9 @@ pub returns : goal.returns
 unfolding command_part
 returns c =
     then c.put.ensures (
-    then c.put-u16.ensures (
+    then c.put_u16.ensures (
     then c.put-2.ensures (
-    then c.put-u16-2.ensures (
-    then c.put-u32.ensures (
-    then c.put-u16-3.ensures
-    c.put-u16-4.ensures)))))
+    then c.put_u16-2.ensures (
+    then c.put_u32.ensures (
+    then c.put_u16-3.ensures
+    c.put_u16-4.ensures)))))

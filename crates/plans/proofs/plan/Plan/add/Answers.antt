@@ -10,11 +10,11 @@ use Rattle.plans.specs.Series.{to_edge_port, add_of}
 use Rattle.plans.specs.Versions.{version_tag, other}
 use Rattle.plans.proofs.plan.Plan.add.Goals as goal
 
-pub returns-in-err-rule : goal.returns-in-err-rule
-returns-in-err-rule c =
+pub returns-in_err-rule : goal.returns-in_err-rule
+returns-in_err-rule c =
     let p = c.args.self.now in
     let t = p.topology.now in
-    rw c.from-residual.ensures (mapped_at (add_of t.switches t.ports (version_tag (other p.in_force))) p.configuration.rows.now c.args.place _ c.in-err-rule.ensures)
+    rw c.from_residual.ensures (mapped_at (add_of t.switches t.ports (version_tag (other p.in_force))) p.configuration.rows.now c.args.place _ c.in_err-rule.ensures)
 
 -- A drop has no out port, so the mark that is left off was not set.
 mark_stays : (n : ℕ) (ports : List PortUse) (switch : ℕ) (a : Action) → (goes_out a && to_edge_port n ports switch a) ≡ to_edge_port n ports switch a
@@ -25,9 +25,9 @@ pub returns : goal.returns
 returns c =
     let p = c.args.self.now in
     let t = p.topology.now in
-    let rule = c.in-ok-rule.rule in
+    let rule = c.in_ok-rule.rule in
     let tag : c.new.result.tag.number ≡ version_tag (other p.in_force) = ap (λ (t : Tag). t.number) c.new.ensures.0 ∙ c.tag.ensures ∙ ap version_tag c.other.ensures.value in
     let row : c.new.result.rule.row ≡ rule.row = ap (λ (r : Rule). r.row) c.new.ensures.1 in
     let strip : c.new.result.strip ≡ to_edge_port t.switches t.ports rule.row.switch rule.row.action =
     c.new.ensures.2 ∙ ap (λ b. goes_out rule.row.action && b) c.leaves-strip.ensures ∙ mark_stays t.switches t.ports rule.row.switch rule.row.action in
-    rw (tag, row, strip) (mapped_at (add_of t.switches t.ports (version_tag (other p.in_force))) p.configuration.rows.now c.args.place _ c.in-ok-rule.ensures)
+    rw (tag, row, strip) (mapped_at (add_of t.switches t.ports (version_tag (other p.in_force))) p.configuration.rows.now c.args.place _ c.in_ok-rule.ensures)

@@ -36,7 +36,7 @@ module _ (p : Plan) (i f k : ℕ) (o : Option Sent) (is : i ≡ length (rules p)
 
 pub returns-then-place-install : goal.returns-then-place-install
 returns-then-place-install c =
-    in_installing c.args.self.now _ (c.edge-count.result + c.from-switches.result) c.args.place _ (omega arith) (omega arith) c.if-place-install.true c.installing.ensures
+    in_installing c.args.self.now _ (c.edge_count.result + c.from-switches.result) c.args.place _ (omega arith) (omega arith) c.if-place-install.true c.installing.ensures
 
 pub returns-then-place-install-2 : goal.returns-then-place-install-2
 returns-then-place-install-2 c =

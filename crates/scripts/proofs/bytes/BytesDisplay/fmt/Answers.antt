@@ -14,7 +14,7 @@ loop-byte-preserved g c plain =
     let bytes = c.args.self.now.0.now in
     let i = c.loop-byte.byte-index in
     let front = c.loop-byte.invariant plain in
-    let back = c.in-ok-write.ensures.writes front.plain (refl {a = true}) in
+    let back = c.in_ok-write.ensures.writes front.plain (refl {a = true}) in
     let text = flat_map_more byte_text [] (take i bytes) (get_or bytes i 0) ∙ ap (flat_map byte_text) (sym (take_more bytes i 0 c.loop-byte-test.true)) in
     let both = has_written_append g.W.Write.write_str_gives c.args.f.now (flat_map byte_text (take i bytes)) c.loop-byte.f (byte_text (get_or bytes i 0)) c.write.new.self front back in
     has_written_of_eq g.W.Write.write_str_gives c.args.f.now _ _ c.write.new.self text both
@@ -23,4 +23,4 @@ pub returns-clause-writes : goal.returns-clause-writes
 returns-clause-writes g c plain ok =
     let bytes = c.args.self.now.0.now in
     let all = ap (flat_map byte_text) (take_all c.loop-byte.byte-index bytes c.loop-byte-test.false) in
-    has_written_of_eq g.W.Write.write_str_gives _ _ _ _ (all ∙ bytes_some bytes c.if-is-empty.ensures) (c.loop-byte.invariant plain)
+    has_written_of_eq g.W.Write.write_str_gives _ _ _ _ (all ∙ bytes_some bytes c.if-is_empty.ensures) (c.loop-byte.invariant plain)

@@ -4,15 +4,15 @@ use Rattle.topologies.specs.Ports.{spot_at}
 use Rattle.topologies.proofs.Counts.{count_more, kept}
 use Rattle.topologies.proofs.Spots.{spots_flat}
 use Rattle.topologies.proofs.topology.Topology.count.Goals as goal
-use Rattle.topologies.proofs.topology.Topology.count.Goals.{then-is-at, else-is-at}
+use Rattle.topologies.proofs.topology.Topology.count.Goals.{then-is_at, else-is_at}
 
 pub loop-i-preserved : goal.loop-i-preserved
 loop-i-preserved c =
     let inv = c.loop-i.invariant in
     let more = count_more c.args.kind c.args.self.now.ports c.loop-i.i c.loop-i.count in
-    elim c.if-is-at.branch [
-      | then-is-at w ↦ (w.count-is ∙ more true (sym c.is-at.ensures ∙ w.if-is-at.true) inv.0, omega (arith, w.count-is))
-      | else-is-at w ↦ (w.count-is ∙ more false (sym c.is-at.ensures ∙ w.if-is-at.false) inv.0, omega (arith, w.count-is))
+    elim c.if-is_at.branch [
+      | then-is_at w ↦ (w.count-is ∙ more true (sym c.is_at.ensures ∙ w.if-is_at.true) inv.0, omega (arith, w.count-is))
+      | else-is_at w ↦ (w.count-is ∙ more false (sym c.is_at.ensures ∙ w.if-is_at.false) inv.0, omega (arith, w.count-is))
     ]
 
 pub returns : goal.returns

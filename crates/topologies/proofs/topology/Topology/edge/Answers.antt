@@ -4,16 +4,16 @@ use Rattle.topologies.specs.Building.{edge_use, Uses}
 use Rattle.topologies.proofs.Links.{edge_paired, edge_uses}
 use Rattle.topologies.proofs.topology.Topology.edge.Goals as goal
 
-pub invariant-of-self : goal.invariant-of-self
-invariant-of-self c =
+pub invariant_of-self : goal.invariant_of-self
+invariant_of-self c =
     let t = c.args.self.now in
-    let i = c.index-of-i.result in (
+    let i = c.index_of-i.result in (
       t.few,
       (
         length-set t.ports i Edge ∙ t.all,
         (
           edge_paired t.switches t.ports t.few.1 t.all t.paired c.args.at
-              c.in-ok-check-port.ensures.inside c.in-ok-check-unused.ensures.unused i c.index-of-i.ensures.place,
+              c.in_ok-check_port.ensures.inside c.in_ok-check_unused.ensures.unused i c.index_of-i.ensures.place,
           tt,
         ),
       ),
@@ -26,6 +26,6 @@ returns c =
     record {
       refusal = search rules;
       after = search rules;
-      uses = subst (λ i. Uses t.switches (set t.ports i Edge) (edge_use t.ports at)) (sym c.index-of-i.ensures.place)
-          (edge_uses t.switches t.ports t.few.1 t.all at c.in-ok-check-port.ensures.inside);
+      uses = subst (λ i. Uses t.switches (set t.ports i Edge) (edge_use t.ports at)) (sym c.index_of-i.ensures.place)
+          (edge_uses t.switches t.ports t.few.1 t.all at c.in_ok-check_port.ensures.inside);
     }

@@ -6,7 +6,7 @@ use Rattle.topologies.specs.declared.spot.Spot.{Spot}
 use Rattle.topologies.proofs.Spots.{spots_flat}
 use Rattle.topologies.proofs.Counts.{spot_within, kept, from, found, skipped, passed}
 use Rattle.topologies.proofs.topology.Topology.edge_port.Goals as goal
-use Rattle.topologies.proofs.topology.Topology.edge_port.Goals.{then-is-at+else-left-eq0, else-is-at}
+use Rattle.topologies.proofs.topology.Topology.edge_port.Goals.{then-is_at+else-left-eq0, else-is_at}
 
 pub loop-i-init : goal.loop-i-init
 loop-i-init c =
@@ -21,10 +21,10 @@ returns-then-left-eq0 c =
     let i = c.loop-i.i in
     let rest = from Edge t.ports (t.switches * 16) i in
     record {
-      value = ap Some c.spot-at.ensures
-          ∙ sym (found Edge t.ports (t.switches * 16) i (omega arith) (sym c.is-at.ensures ∙ c.if-is-at.true))
+      value = ap Some c.spot_at.ensures
+          ∙ sym (found Edge t.ports (t.switches * 16) i (omega arith) (sym c.is_at.ensures ∙ c.if-is_at.true))
           ∙ ap (slice_get rest) (sym c.if-left-eq0.true) ∙ c.loop-i.invariant;
-      inside = rw c.spot-at.ensures (spot_within t.switches i (omega arith));
+      inside = rw c.spot_at.ensures (spot_within t.switches i (omega arith));
     }
 
 pub loop-i-preserved : goal.loop-i-preserved
@@ -33,7 +33,7 @@ loop-i-preserved c =
     let i = c.loop-i.i in
     let m = t.switches * 16 in
     let here : i < m = omega arith in
-    elim c.if-is-at.branch [
-      | then-is-at+else-left-eq0 w ↦ ap (slice_get _) w.left-is ∙ sym (passed Edge t.ports m i c.loop-i.left here (omega (arith, w.if-left-eq0.false)) (sym c.is-at.ensures ∙ w.if-is-at.true)) ∙ c.loop-i.invariant
-      | else-is-at w ↦ ap (slice_get _) w.left-is ∙ sym (skipped Edge t.ports m i c.loop-i.left here (sym c.is-at.ensures ∙ w.if-is-at.false)) ∙ c.loop-i.invariant
+    elim c.if-is_at.branch [
+      | then-is_at+else-left-eq0 w ↦ ap (slice_get _) w.left-is ∙ sym (passed Edge t.ports m i c.loop-i.left here (omega (arith, w.if-left-eq0.false)) (sym c.is_at.ensures ∙ w.if-is_at.true)) ∙ c.loop-i.invariant
+      | else-is_at w ↦ ap (slice_get _) w.left-is ∙ sym (skipped Edge t.ports m i c.loop-i.left here (sym c.is_at.ensures ∙ w.if-is_at.false)) ∙ c.loop-i.invariant
     ]

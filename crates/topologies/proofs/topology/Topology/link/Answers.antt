@@ -5,22 +5,22 @@ use Rattle.topologies.specs.Ports.{index, same}
 use Rattle.topologies.proofs.Links.{link_paired, link_uses}
 use Rattle.topologies.proofs.topology.Topology.link.Goals as goal
 
-pub invariant-of-self : goal.invariant-of-self
-invariant-of-self c =
+pub invariant_of-self : goal.invariant_of-self
+invariant_of-self c =
     let t = c.args.self.now in
     let a = c.args.a in
     let b = c.args.b in
-    let i = c.index-of-i.result in
-    let j = c.index-of-j.result in
+    let i = c.index_of-i.result in
+    let j = c.index_of-j.result in
     let other : same a b ≡ false = search rules in (
       t.few,
       (
         length-set _ j (Linked a) ∙ length-set t.ports i (Linked b) ∙ t.all,
         (
           link_paired t.switches t.ports t.few.1 t.all t.paired a b
-              c.in-ok-check-port.ensures.inside c.in-ok-check-port-2.ensures.inside
-              c.in-ok-check-unused.ensures.unused c.in-ok-check-unused-2.ensures.unused
-              other i j c.index-of-i.ensures.place c.index-of-j.ensures.place,
+              c.in_ok-check_port.ensures.inside c.in_ok-check_port-2.ensures.inside
+              c.in_ok-check_unused.ensures.unused c.in_ok-check_unused-2.ensures.unused
+              other i j c.index_of-i.ensures.place c.index_of-j.ensures.place,
           tt,
         ),
       ),
@@ -37,7 +37,7 @@ returns c =
     record {
       refusal = search rules;
       after = search rules;
-      uses = subst (λ j. Uses n (set (set ports c.index-of-i.result (Linked b)) j (Linked a)) (link_use ports a b)) (sym c.index-of-j.ensures.place)
-          (subst (λ i. Uses n (set (set ports i (Linked b)) (index b) (Linked a)) (link_use ports a b)) (sym c.index-of-i.ensures.place)
-          (link_uses n ports t.few.1 t.all a b c.in-ok-check-port.ensures.inside c.in-ok-check-port-2.ensures.inside other));
+      uses = subst (λ j. Uses n (set (set ports c.index_of-i.result (Linked b)) j (Linked a)) (link_use ports a b)) (sym c.index_of-j.ensures.place)
+          (subst (λ i. Uses n (set (set ports i (Linked b)) (index b) (Linked a)) (link_use ports a b)) (sym c.index_of-i.ensures.place)
+          (link_uses n ports t.few.1 t.all a b c.in_ok-check_port.ensures.inside c.in_ok-check_port-2.ensures.inside other));
     }

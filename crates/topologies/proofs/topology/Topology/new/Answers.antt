@@ -3,5 +3,5 @@ use Rattle.topologies.specs.Ports.{index}
 use Rattle.topologies.proofs.Uses.{use_fresh}
 use Rattle.topologies.proofs.topology.Topology.new.Goals as goal
 
-pub invariant-of-result : goal.invariant-of-result
-invariant-of-result c = ((omega arith, omega arith), (refl, ((λ s w. rw (use_fresh 256 (index s))), tt)))
+pub invariant_of-result : goal.invariant_of-result
+invariant_of-result c = ((omega arith, omega arith), (refl, ((λ s w. rw (use_fresh 256 (index s))), tt)))
