@@ -59,7 +59,7 @@ impl Topology {
     pub fn edge(&mut self, at: Spot) -> Result<(), TopologyFault>
         ensures refusal { result_err result ≡ edge_fault self.old.switches self.old.ports at }
         ensures after { (self.new.switches ≡ self.old.switches) × (self.new.ports ≡ (if is_ok result then with_edge self.old.ports at else self.old.ports)) }
-        ensures uses { made result (λ _. Uses self.old.switches self.new.ports (edge_use self.old.ports at)) }
+        ensures uses { OnOk result (Uses self.old.switches self.new.ports (edge_use self.old.ports at)) }
     {
         self.check_port(at)?;
         self.check_unused(at)?;
@@ -72,7 +72,7 @@ impl Topology {
     pub fn link(&mut self, a: Spot, b: Spot) -> Result<(), TopologyFault>
         ensures refusal { result_err result ≡ link_fault self.old.switches self.old.ports a b }
         ensures after { (self.new.switches ≡ self.old.switches) × (self.new.ports ≡ (if is_ok result then with_link self.old.ports a b else self.old.ports)) }
-        ensures uses { made result (λ _. Uses self.old.switches self.new.ports (link_use self.old.ports a b)) }
+        ensures uses { OnOk result (Uses self.old.switches self.new.ports (link_use self.old.ports a b)) }
     {
         self.check_port(a)?;
         self.check_port(b)?;

@@ -7,17 +7,13 @@ use Rattle.topologies.proofs.topology.Topology.edge.Goals as goal
 pub invariant_of-self : goal.invariant_of-self
 invariant_of-self c =
     let t = c.args.self.now in
-    let i = c.index_of-i.result in (
-      t.few,
-      (
-        length-set t.ports i Edge ∙ t.all,
-        (
-          edge_paired t.switches t.ports t.few.1 t.all t.paired c.args.at
-              c.in_ok-check_port.ensures.inside c.in_ok-check_unused.ensures.unused i c.index_of-i.ensures.place,
-          tt,
-        ),
-      ),
-    )
+    let i = c.index_of-i.result in
+    record {
+      few = t.few;
+      all = length-set t.ports i Edge ∙ t.all;
+      paired = edge_paired t.switches t.ports t.few.1 t.all t.paired c.args.at
+          c.in_ok-check_port.ensures.inside c.in_ok-check_unused.ensures.unused i c.index_of-i.ensures.place;
+    }
 
 pub returns : goal.returns
 returns c =

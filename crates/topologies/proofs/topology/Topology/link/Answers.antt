@@ -12,19 +12,15 @@ invariant_of-self c =
     let b = c.args.b in
     let i = c.index_of-i.result in
     let j = c.index_of-j.result in
-    let other : same a b ≡ false = search rules in (
-      t.few,
-      (
-        length-set _ j (Linked a) ∙ length-set t.ports i (Linked b) ∙ t.all,
-        (
-          link_paired t.switches t.ports t.few.1 t.all t.paired a b
-              c.in_ok-check_port.ensures.inside c.in_ok-check_port-2.ensures.inside
-              c.in_ok-check_unused.ensures.unused c.in_ok-check_unused-2.ensures.unused
-              other i j c.index_of-i.ensures.place c.index_of-j.ensures.place,
-          tt,
-        ),
-      ),
-    )
+    let other : same a b ≡ false = search rules in
+    record {
+      few = t.few;
+      all = length-set _ j (Linked a) ∙ length-set t.ports i (Linked b) ∙ t.all;
+      paired = link_paired t.switches t.ports t.few.1 t.all t.paired a b
+          c.in_ok-check_port.ensures.inside c.in_ok-check_port-2.ensures.inside
+          c.in_ok-check_unused.ensures.unused c.in_ok-check_unused-2.ensures.unused
+          other i j c.index_of-i.ensures.place c.index_of-j.ensures.place;
+    }
 
 pub returns : goal.returns
 returns c =
