@@ -2,7 +2,6 @@ use Rattle.std.proofs.Common.{◌≡◌, ap, ◌∙◌, rules}
 use Rattle.topologies.proofs.Uses.{within_numbers}
 use Rattle.topologies.specs.Ports.{edge_ports_of}
 use Rattle.patterns.proofs.Lists.{mapped_at}
-use Rattle.messages.specs.Sent.{stamp}
 use Rattle.plans.specs.Series.{stamp_of}
 use Rattle.plans.specs.Versions.{version_tag, other}
 use Rattle.plans.proofs.plan.Plan.stamp.Goals as goal

@@ -16,4 +16,4 @@ returns-clause-writes g c plain ok =
     ap (λ k. take k c.write.new.buffer) (sub-zero n) ∙ ap (take n) written.after ∙ written_front (wire p c.args.self.now.xid) (replicate 88 0) n written.answer in
     let switch_is : c.number.result ≡ switch_at p = c.number.ensures ∙ c.switch.ensures in
     let text_is = ap (λ s. entry_text s (take (n - 0) c.write.new.buffer)) switch_is ∙ ap (entry_text (switch_at p)) bytes_are in
-    subst (λ t. HasWritten {W = g.row.W.Denot} g.W.Write.write_str_gives c.args.f.now t c.write-2.new.self) text_is (c.write-2.ensures.shows plain ok)
+    subst (λ t. HasWritten {W = g.row.W.Denot} g.W.Write.write_str_gives c.args.f.now t c.write-2.new.self) text_is (c.write-2.ensures.writes plain ok)
