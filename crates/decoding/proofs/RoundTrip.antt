@@ -37,7 +37,7 @@ module _ (s : ℕ) (bytes : List ℕ) (x y : ℕ) where
   pub same : (p q : Pdu) → Writing s bytes p x → Writing s bytes q y → (p ≡ q) × (x ≡ y)
   same p q v w = (
     same_pdu q (form p) v w,
-    sym (xid_told x v.xid_fits (form p)) ∙ ap (λ b. at4 b 4) (v.is ∙ sym w.is) ∙ xid_told y w.xid-fits (form q),
+    sym (xid_told x v.xid_fits (form p)) ∙ ap (λ b. at4 b 4) (v.is ∙ sym w.is) ∙ xid_told y w.xid_fits (form q),
   )
 
 -- Bytes that begin with a writing pass the tests of the header, and its length takes in just the writing.
@@ -93,7 +93,7 @@ take_again (suc k) (x ∷ b) = ap (λ l. x ∷ l) (take_again k b)
 writing : (o : Option ReadFault) (s : ℕ) (b : List ℕ) (p : Pdu) (xid n : ℕ) → UnlessRefused o s b (Ok (record { pdu = p; xid = xid; length = n })) → (switch_at (carried p) ≡ s) × (take n b ≡ wire (carried p) xid) × (n ≡ length (wire (carried p) xid)) × Fits (carried p) × (xid < 2 ^ 32)
 writing (Some f) s b p xid n r = let z : ◌≡◌ {A = ℕ} 0 1 = cc in absurd (omega arith)
 writing None s b p xid n (w, len) =
-    (w.to, ap (λ m. take m b) len ∙ take_again (at2 b 2) b ∙ sym w.is, len ∙ ap length (sym w.is), w.fits, w.xid-fits)
+    (w.to, ap (λ m. take m b) len ∙ take_again (at2 b 2) b ∙ sym w.is, len ∙ ap length (sym w.is), w.fits, w.xid_fits)
 
 one_answer : (o : Option ReadFault) (s : ℕ) (b : List ℕ) (a c : Result Received ReadFault) → UnlessRefused o s b a → UnlessRefused o s b c → a ≡ c
 one_answer (Some f) s b a c d e = d ∙ sym e

@@ -113,7 +113,7 @@ row_told rule tag strip f s v source destination i p d a makes to e ve ie se de 
     let q = rule.pattern in
     let w = parts q.in_port q.protocol q.destination_port _ _ _ (omega arith) (omega arith) (ap (λ g. g.wildcards) (sym e)) in
     let port : f.in_port ≡ fixed_or q.in_port 0 = ap (λ g. g.in_port) (sym e) in
-    let i_is : i ≡ q.in_port = ie ∙ number_told q.in_port _ v w.in-port (omega arith) in
+    let i_is : i ≡ q.in_port = ie ∙ number_told q.in_port _ v w.in_port (omega arith) in
     let p_is : p ≡ q.protocol = pe ∙ number_told q.protocol _ _ w.protocol (ap (λ g. g.protocol) (sym e)) in
     let d_is : d ≡ q.destination_port = qe ∙ number_told q.destination_port _ _ w.port (ap (λ g. g.destination_port) (sym e)) in
     let s_is : source ≡ q.source.length = omega (arith, w.source) in

@@ -1,5 +1,5 @@
 -- Which answer reading gives, on every byte string.
-use Rattle.std.specs.Prelude.{◌≡◌, ℕ, ◌^◌, ◌<◌, ◌&&◌, cond, List, length, take, Some, None, Ok, Err, Option, Result, ◌==◌, nat_le}
+use Rattle.std.specs.Prelude.{◌≡◌, ℕ, Bool, ◌^◌, ◌<◌, ◌&&◌, cond, List, length, take, Some, None, Ok, Err, Option, Result, ◌==◌, nat_le}
 use Rattle.std.specs.Option.{option_or}
 use Rattle.patterns.specs.Numbers.{fixed_fits}
 use Rattle.rules.specs.declared.row.Row.{Row}

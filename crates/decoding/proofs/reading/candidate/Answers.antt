@@ -20,26 +20,26 @@ returns-in-Reply c =
       to = refl;
     }
 
-pub returns-in_err-flow_mod : goal.returns-in_err-flow_mod
-returns-in_err-flow_mod c =
+pub returns-in_err-flow_mod-in-FlowMod : goal.returns-in_err-flow_mod-in-FlowMod
+returns-in_err-flow_mod-in-FlowMod c =
     let type = sym c.requires ∙ ap type_number c.in-FlowMod.is in
     record {
       told = λ p xid w.
           let (m, (is, long, to, fields)) = flow_mod_told c.args.bytes.now xid c.args.switch.number w type (form p) in
           let found = c.flow_mod.ensures.told m to long fields in
-          let was = c.in_err-flow_mod.was in
+          let was = c.in_err-flow_mod-in-FlowMod.was in
           cc;
       to = search rules;
     }
 
-pub returns-in_ok-flow_mod : goal.returns-in_ok-flow_mod
-returns-in_ok-flow_mod c =
+pub returns-in_ok-flow_mod-in-FlowMod : goal.returns-in_ok-flow_mod-in-FlowMod
+returns-in_ok-flow_mod-in-FlowMod c =
     let type = sym c.requires ∙ ap type_number c.in-FlowMod.is in
     record {
       told = λ p xid w.
           let (m, (is, long, to, fields)) = flow_mod_told c.args.bytes.now xid c.args.switch.number w type (form p) in
           let found = c.flow_mod.ensures.told m to long fields in
-          let was = c.in_ok-flow_mod.was in
+          let was = c.in_ok-flow_mod-in-FlowMod.was in
           cc;
-      to = c.in_ok-flow_mod.ensures.to;
+      to = c.in_ok-flow_mod-in-FlowMod.ensures.to;
     }

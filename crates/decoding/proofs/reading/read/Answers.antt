@@ -1,4 +1,4 @@
-use Rattle.std.proofs.Common.{◌≡◌, Bool, true, false, not, sym, refl, ap, ◌∙◌, rules}
+use Rattle.std.proofs.Common.{◌≡◌, ◌-◌, take, Bool, true, false, not, sym, refl, ap, ◌∙◌, rules}
 use Rattle.std.proofs.lemmas.Slice.Eq.{slice_eq-Decides}
 use Rattle.std.proofs.lemmas.Bool.{true≢false}
 use Rattle.openflow.specs.declared.pdu.Pdu.{Pdu}
@@ -39,7 +39,7 @@ returns-then-ne c =
     let header = c.in_ok-kind.ensures in
     let n = c.in_ok-kind.field-0.length in
     let b = c.args.bytes.now in
-    let (x, matches, e) = c.ne.ensures in
+    let compared = slice_eq-Decides Decides-eqb c.as_slice.result.now (take (n - 0) b) _ refl in
     record {
       answer =
           reads c.args.switch n _ b _
@@ -50,11 +50,11 @@ returns-then-ne c =
                 let was = c.in-Some.is in
                 let same : c.in-Some.pdu ≡ p = cc in
                 let xid_is : c.in_ok-kind.field-0.xid ≡ xid =
-                header.value.2 ∙ at4_front n b header.within.0 ∙ ap (λ l. at4 l 4) (sym w.is) ∙ xid_told xid w.xid-fits (form p) in
+                header.value.2 ∙ at4_front n b header.within.0 ∙ ap (λ l. at4 l 4) (sym w.is) ∙ xid_told xid w.xid_fits (form p) in
                 let equal =
                 c.as_slice.ensures ∙ c.of-frame.ensures
                 ∙ ap (λ (q : Pdu). wire (carried q) c.in_ok-kind.field-0.xid) same ∙ ap (wire (carried p)) xid_is ∙ w.is in
-                unlike x c.ne.result e c.if-ne.true ((slice_eq-Decides Decides-eqb _ _ x matches).1 equal),
+                unlike _ c.ne.result c.ne.ensures c.if-ne.true (compared.1 equal),
           );
       law = round_trip;
     }
@@ -65,7 +65,7 @@ returns c =
     let header = c.in_ok-kind.ensures in
     let n = c.in_ok-kind.field-0.length in
     let b = c.args.bytes.now in
-    let (x, matches, e) = c.ne.ensures in
+    let compared = slice_eq-Decides Decides-eqb c.as_slice.result.now (take (n - 0) b) _ refl in
     record {
       answer =
           reads c.args.switch n _ b _
@@ -74,7 +74,7 @@ returns c =
               fits = fits;
               xid_fits = search rules;
               to = c.in-Some.ensures.to;
-              is = sym (c.as_slice.ensures ∙ c.of-frame.ensures) ∙ (slice_eq-Decides Decides-eqb _ _ x matches).0 (like x c.ne.result e c.if-ne.false);
+              is = sym (c.as_slice.ensures ∙ c.of-frame.ensures) ∙ compared.0 (like _ c.ne.result c.ne.ensures c.if-ne.false);
             },
             front_length n b header.within.1,
           );
