@@ -1,12 +1,10 @@
-// Plans the example update and prints it: a heading, a line for each message, the sum, and the script.
+// Plans the example update and prints it: a heading, a line for each message, and the sum.
 #![tactic(auto)]
 
 use configurations::configuration::Configuration;
 use example::site;
-use openflow::pdu::Pdu;
 use plans::plan::Plan;
 use plans::version::Version;
-use scripts::pdu_line::PduLine;
 use std::io;
 
 fn report(rt: &impl Print, plan: &Plan<'_>) -> io::Result<()> {
@@ -19,18 +17,6 @@ fn report(rt: &impl Print, plan: &Plan<'_>) -> io::Result<()> {
         }
     }
     rt.println(sum)
-}
-
-// The messages in order, each as a line of its switch and its bytes.
-fn script(rt: &impl Print, plan: &Plan<'_>) -> io::Result<()> {
-    rt.println("switch hex")?;
-    for xid in 1..=plan.sum().total {
-        if let Some(message) = plan.message(xid) {
-            let pdu = Pdu::Message(message);
-            rt.println(PduLine { pdu, xid })?;
-        }
-    }
-    Ok(())
 }
 
 fn refused(rt: &impl Print, number: u8) -> io::Result<()> {
@@ -48,10 +34,7 @@ fn main(rt: HostRuntime) -> io::Result<()> {
         return refused(&rt, fault.number());
     }
     match Plan::new(&topology, configuration, Version::First) {
-        Ok(plan) => {
-            report(&rt, &plan)?;
-            script(&rt, &plan)
-        }
+        Ok(plan) => report(&rt, &plan),
         Err(fault) => refused(&rt, fault.number()),
     }
 }

@@ -1,4 +1,4 @@
--- The fields of a flow_mod stand at their offsets.
+-- The fields of a flow-mod stand at their offsets.
 use Rattle.std.proofs.Common.{◌≡◌, ℕ, ◌+◌, ◌*◌, ◌/◌, ◌%◌, ◌^◌, ◌<◌, ◌++◌, length, refl, ap, arith}
 use Rattle.std.proofs.lemmas.Nat.{shr-shr}
 use Rattle.openflow.specs.declared.flow_mod.Actions.{Actions}

@@ -16,7 +16,7 @@ use Rattle.decoding.specs.Reading.{Writing}
 use Rattle.decoding.proofs.Fit.{fields_fit}
 use Rattle.decoding.proofs.Offsets.{join4, fields_told}
 
--- A flow_mod by its fields, a barrier or a reply.
+-- A flow-mod by its fields, a barrier or a reply.
 pub data Form : Pdu → Type 0 where
   flow_mod_form : (m : Message) (f : FlowMod) → HasFields (sent m) f → ((xid : ℕ) → wire (carried_message (sent m)) xid ≡ flow_mod f xid) → Form (pdu.Message m)
   barrier_form : (s : Switch) → Form (pdu.Message (message.Barrier s))

@@ -1,4 +1,4 @@
--- Where the fields of a flow_mod stand: the layout told by offsets.
+-- Where the fields of a flow-mod stand: the layout told by offsets.
 use Rattle.std.specs.Prelude.{ℕ, ◌+◌, ◌*◌, cond, List, length, ◌==◌, nat_le, nat_lt, slice_index}
 use Rattle.openflow.specs.declared.flow_mod.Actions.{Actions}
 use Rattle.openflow.specs.declared.flow_mod.Actions.TheVariants as actions

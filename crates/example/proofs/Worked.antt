@@ -1,19 +1,12 @@
 -- The worked cases, by computation under the definitions.
-use Rattle.std.proofs.Common.{◌+◌, ◌*◌, true, false, [], length, refl, ap, ◌∙◌}
-use Rattle.messages.specs.Sent.{add}
-use Rattle.openflow.specs.Carried.{message}
-use Rattle.openflow.proofs.Sizes.{length-wire}
+use Rattle.std.proofs.Common.{◌+◌, ◌*◌, [], length, refl, ap, ◌∙◌}
 use Rattle.plans.proofs.Sizes.{length-series}
 use Rattle.example.specs.Cases.{Worked}
-use Rattle.example.specs.Site.{site_rule}
 
 pub worked : Worked
 worked = record {
   prefixes_meet = refl;
   prefixes_apart = refl;
   example_series = refl;
-  example_adds = λ xid. (length-wire (message (add 2 (site_rule 0 2) false)) xid, length-wire (message (add 2 (site_rule 1 1) true)) xid);
-  open_wildcards = refl;
-  fixed_wildcards = refl;
   smallest_series = λ ports old new e. length-series 1 ports [] old new ∙ ap (λ xs. 0 + length xs + 4 * 1) e;
 }

@@ -1,2 +1,3 @@
 pub mod Site
 pub mod Cases
+pub mod ByteCases

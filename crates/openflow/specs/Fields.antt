@@ -1,4 +1,4 @@
--- The fields of each flow_mod: add, stamp and remove.
+-- The fields of each flow-mod: add, stamp and remove.
 use Rattle.std.specs.Prelude.{◌≡◌, ℕ, ◌+◌, ◌-◌, ◌*◌, Bool, cond}
 use Rattle.patterns.specs.declared.number.Number.{Number}
 use Rattle.patterns.specs.declared.number.Number.TheVariants.{Open, Fixed}
@@ -46,7 +46,7 @@ add_fields tag rule strip = record {
   actions = add_actions rule.action strip;
 }
 
--- All but the in_port and the VLAN is open. A packet without a tag has VLAN 0xffff.
+-- All but the in-port and the VLAN is open. A packet without a tag has VLAN 0xffff.
 abbrev pub stamp_fields : (port tag : ℕ) → FlowMod
 stamp_fields port tag = record {
   wildcards = 0x3FFFFC;
@@ -80,7 +80,7 @@ remove_fields tag = record {
   actions = actions.Empty;
 }
 
--- The message is a flow_mod with these fields.
+-- The message is a flow-mod with these fields.
 abbrev pub HasFields : Sent → FlowMod → Type 0
 HasFields (add tag rule strip) f = add_fields tag rule strip ≡ f
 HasFields (stamp switch port tag) f = stamp_fields port tag ≡ f

@@ -1,4 +1,4 @@
--- The types of message on the wire: flow_mod, barrier and barrier reply.
+-- The types of message on the wire: flow-mod, barrier and barrier reply.
 use Rattle.std.specs.Prelude.{ℕ, Bool, ◌||◌, ◌==◌}
 use Rattle.openflow.specs.declared.kind.Kind.{Kind}
 use Rattle.openflow.specs.declared.kind.Kind.TheVariants as kind

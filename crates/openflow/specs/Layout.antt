@@ -23,7 +23,7 @@ header type length xid =
     be2 length  --  2
     ++ be4 xid  --  4
 
--- What a flow_mod matches. Open values are zero, and so are all bytes without a name here.
+-- What a flow-mod matches. Open values are zero, and so are all bytes without a name here.
 unfoldable pub match_part : FlowMod → List ℕ
 match_part f =
     be4 f.wildcards  --  8

@@ -1,4 +1,4 @@
--- Which packets the numbers of a rule pattern admit, and when two of them meet. A packet is its in_port and its header.
+-- Which packets the numbers of a rule pattern admit, and when two of them meet. A packet is its in-port and its header.
 use Rattle.std.specs.Prelude.{◌≡◌, ℕ, ◌^◌, ◌<◌, ◌≤◌, Bool, true, ◌&&◌, nat_eq}
 use Rattle.patterns.specs.Numbers.{admits_number}
 use Rattle.patterns.specs.Prefixes.{same_start}

@@ -1,4 +1,4 @@
-// What rules match of a packet besides its in_port.
+// What rules match of a packet besides its in-port.
 #[derive(Clone, Copy, PartialEq, Eq)]
 pub struct Header {
     pub source: u32,

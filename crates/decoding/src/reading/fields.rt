@@ -72,7 +72,7 @@ fn parse(bytes: &[u8]) -> FlowMod
     }
 }
 
-// The flow_mod whose writing these bytes are. Other bytes may give one too: its writing will differ.
+// The flow-mod whose writing these bytes are. Other bytes may give one too: its writing will differ.
 pub fn flow_mod(switch: Switch, bytes: &[u8]) -> Option<Message>
     ensures told { (m : Message) → switch_of (sent m) ≡ switch.number → 72 ≤ length bytes.now → HasFields (sent m) (fields_at bytes.now) → result ≡ Some m }
     ensures to { IfSome result (λ m. switch_of (sent m) ≡ switch.number) }
