@@ -43,18 +43,18 @@ fn rewritten(rt: &impl Abort, heap: Global, line: &str) -> Result<(), Fail> {
     let Ok(length) = write(received.pdu, received.xid, &mut buffer) else {
         return Err(Fail::new("too short"));
     };
-    assert_eq!(rt; received.pdu.switch().number(), given.switch);
-    assert!(rt; length == received.length);
-    assert!(rt; length <= bytes.len() && length <= LONGEST);
-    assert!(rt; buffer[0..length] == bytes[0..length]);
-    assert!(rt; buffer[length..100] == [0xaa; 100][length..100]);
+    assert_eq!(rt; received.pdu.switch().number(), given.switch, "{line}");
+    assert!(rt; length == received.length, "{line}");
+    assert!(rt; length <= bytes.len() && length <= LONGEST, "{line}");
+    assert!(rt; buffer[0..length] == bytes[0..length], "{line}");
+    assert!(rt; buffer[length..100] == [0xaa; 100][length..100], "{line}");
     Ok(())
 }
 
 #[test]
 fn what_is_accepted_is_written_again_as_the_same_bytes(rt: HostRuntime) -> Result<(), Fail> {
     for line in ACCEPTED {
-        rewritten(&rt, rt.alloc(), line).note(line)?;
+        rewritten(&rt, rt.alloc(), line)?;
     }
     Ok(())
 }
