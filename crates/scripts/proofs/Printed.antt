@@ -5,7 +5,7 @@ use Rattle.std.proofs.ByRecursion.{All-append, All-from_get_or}
 use Rattle.std.proofs.lemmas.Str.Parse.{IsNumeralModel, numerals_by_value, tells_all_ascii_digits, not_in_digits}
 use Rattle.std.proofs.lemmas.Bool.{ne_eqb}
 use Rattle.std.proofs.lemmas.Bool.Decides.{nat_tests}
-use Rattle.std.specs.List.{flat_map, AllByRecursion as All}
+use Rattle.std.specs.List.{flat_map, AllByRecursion}
 use Rattle.std.specs.Str.Parse.{digits_value}
 use Rattle.std.specs.Int.{IsInRange}
 use Rattle.std.specs.Str.{all_ascii_digits}
@@ -37,11 +37,11 @@ pair_back b h =
     let is : b / 16 * 16 + b % 16 ≡ b = omega arith in
     rw (digit_back (b / 16) (omega arith), digit_back (b % 16) (omega arith), is)
 
-pairs_back : (bs : List ℕ) → All (λ b. b < 256) bs → pairs_value (flat_map byte_text bs) ≡ Some bs
+pairs_back : (bs : List ℕ) → AllByRecursion (λ b. b < 256) bs → pairs_value (flat_map byte_text bs) ≡ Some bs
 pairs_back [] h = refl
 pairs_back (b ∷ bs) h = rw (pair_back b h.0, pairs_back bs h.1)
 
-bytes_back : (bs : List ℕ) → All (λ b. b < 256) bs → bytes_value (bytes_text bs) ≡ Some bs
+bytes_back : (bs : List ℕ) → AllByRecursion (λ b. b < 256) bs → bytes_value (bytes_text bs) ≡ Some bs
 bytes_back [] h = refl
 bytes_back (b ∷ bs) h = pairs_back (b ∷ bs) h
 

@@ -3,12 +3,12 @@ use Rattle.std.proofs.Common.{◌≡◌, ℕ, ◌+◌, ◌<◌, Bool, true, fals
 use Rattle.std.proofs.lemmas.List.{take-append-drop, drop_more}
 use Rattle.std.proofs.lemmas.Bool.{false≢true, eq-eqb, ne_eqb, cond-true, cond-false}
 use Rattle.std.specs.Option.{option_map}
-use Rattle.std.specs.List.{AllByRecursion as All}
+use Rattle.std.specs.List.{AllByRecursion}
 use Rattle.scripts.specs.Splits.{split, chomped, first_line}
 
 -- None of them is the mark.
 abbrev pub Lacks : ℕ → List ℕ → Type 0
-Lacks mark cs = All (λ c. c ≡ mark → ⊥) cs
+Lacks mark cs = AllByRecursion (λ c. c ≡ mark → ⊥) cs
 
 pub split_found : (mark : ℕ) (front rest : List ℕ) → Lacks mark front → split mark (front ++ (mark ∷ rest)) ≡ Some (front, rest)
 split_found mark [] rest h = cond-true _ _ _ (eq-eqb mark mark refl)

@@ -1,13 +1,13 @@
 -- What becomes of entries that are printed.
 use Rattle.std.specs.Prelude.{◌≡◌, ℕ, ◌<◌, List, [], ◌∷◌, ◌++◌, Some, None}
-use Rattle.std.specs.List.{flat_map, AllByRecursion as All}
+use Rattle.std.specs.List.{flat_map, AllByRecursion}
 use Rattle.scripts.specs.Forms.{parsed}
 use Rattle.scripts.specs.Splits.{first_line}
 use Rattle.scripts.specs.Texts.{entry_text}
 
 -- A switch and bytes, each of which fits a byte.
 abbrev pub ByteSized : ℕ × List ℕ → Type 0
-ByteSized e = (e.0 < 256) × All (λ b. b < 256) e.1
+ByteSized e = (e.0 < 256) × AllByRecursion (λ b. b < 256) e.1
 
 -- The text of an entry says that entry.
 abbrev pub EntriesReturn : Type 0
@@ -23,4 +23,4 @@ Says [] text = first_line text ≡ None
 Says (e ∷ es) text = (line : List ℕ) × (rest : List ℕ) × (first_line text ≡ Some (line, rest)) × (parsed line ≡ Some e) × Says es rest
 
 abbrev pub ScriptsReturn : Type 0
-ScriptsReturn = (entries : List (ℕ × List ℕ)) → All ByteSized entries → Says entries (script_text entries)
+ScriptsReturn = (entries : List (ℕ × List ℕ)) → AllByRecursion ByteSized entries → Says entries (script_text entries)
