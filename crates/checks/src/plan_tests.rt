@@ -7,14 +7,15 @@ use plans::version::Version;
 use rules::row::{Action, Row};
 use rules::rule::Rule;
 use std::fmt::Display;
-use std::process::Abort;
 use std::test::Fail;
 use topologies::spot::Spot;
 use topologies::topology::Topology;
 
-fn planning<'a>(rt: &impl Abort, topology: &'a Topology, rows: &'a [Row]) -> Result<u8, Fail> {
+fn planning<'a>(topology: &'a Topology, rows: &'a [Row]) -> Result<u8, Fail> {
     let mut configuration = Configuration::new();
-    assert!(rt; configuration.set(rows).is_ok());
+    if configuration.set(rows).is_err() {
+        return Err(Fail::new("not set"));
+    }
     Ok(refusal!(Plan::new(topology, configuration, Version::First)))
 }
 
@@ -23,8 +24,8 @@ fn a_rule_off_the_topology_is_refused(rt: HostRuntime) -> Result<(), Fail> {
     let Ok(topology) = site::topology() else {
         return Err(Fail::new("no site"));
     };
-    assert_eq!(rt; planning(&rt, &topology, &[drop_all(1, 1)])?, 0);
-    assert_eq!(rt; planning(&rt, &topology, &[drop_all(2, 1)])?, 72);
+    assert_eq!(rt; planning(&topology, &[drop_all(1, 1)])?, 0);
+    assert_eq!(rt; planning(&topology, &[drop_all(2, 1)])?, 72);
     let mut configuration = Configuration::new();
     let rows = [drop_all(0, 1), drop_all(5, 1), drop_all(2, 1)];
     assert!(rt; configuration.set(&rows).is_ok());

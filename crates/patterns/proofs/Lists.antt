@@ -5,7 +5,7 @@ use Rattle.std.proofs.lemmas.List.FromFn.{length-range_with_len, get_or-range_wi
 use Rattle.std.proofs.ByRecursion.{All-get_or}
 use Rattle.std.proofs.lemmas.Option.{slice_get-get_or, slice_get_past}
 use Rattle.std.proofs.lemmas.Bool.{cases_lt, false≢true}
-use Rattle.std.specs.List.{range_with_len, AllByRecursion as All, slice_get}
+use Rattle.std.specs.List.{range_with_len, AllByRecursion, slice_get}
 use Rattle.std.specs.Option.{option_map}
 
 pub slice_get_within : {X : Type 0} (xs : List X) (k : ℕ) (x : X) → slice_get xs k ≡ Some x → k < length xs
@@ -47,20 +47,20 @@ pub slice_get-range_with_len : (n k : ℕ) → k < n → slice_get (range_with_l
 slice_get-range_with_len n k h = slice_get-get_or (range_with_len 0 n) k 0 (rw (length-range_with_len 0 n) h) ∙ ap Some (get_or-range_with_len 0 n k 0 h ∙ omega arith)
 
 -- What holds of each element holds of the one at a place.
-pub All-slice_get : {X : Type 0} (P : X → Type 0) (xs : List X) (k : ℕ) (x : X) → All P xs → slice_get xs k ≡ Some x → P x
+pub All-slice_get : {X : Type 0} (P : X → Type 0) (xs : List X) (k : ℕ) (x : X) → AllByRecursion P xs → slice_get xs k ≡ Some x → P x
 All-slice_get P xs k x all e =
     let h = slice_get_within xs k x e in
     let is : get_or xs k x ≡ x = grind (arith, slice_get-get_or xs k x h) in
     subst P is (All-get_or P xs k x h all)
 
-pub All_any : {X : Type 0} (P : X → Type 0) → ((x : X) → P x) → (xs : List X) → All P xs
+pub All_any : {X : Type 0} (P : X → Type 0) → ((x : X) → P x) → (xs : List X) → AllByRecursion P xs
 All_any P p [] = tt
 All_any P p (x ∷ xs) = (p x, All_any P p xs)
 
-pub All-range_with_len : (a n m : ℕ) → a + n ≤ m → All (λ k. k < m) (range_with_len a n)
+pub All-range_with_len : (a n m : ℕ) → a + n ≤ m → AllByRecursion (λ k. k < m) (range_with_len a n)
 All-range_with_len a zero m h = tt
 All-range_with_len a (suc n) m h = (omega arith, All-range_with_len (a + 1) n m (omega arith))
 
-pub All_from_slice_get : {X : Type 0} (P : X → Type 0) (xs : List X) → ((k : ℕ) (x : X) → slice_get xs k ≡ Some x → P x) → All P xs
+pub All_from_slice_get : {X : Type 0} (P : X → Type 0) (xs : List X) → ((k : ℕ) (x : X) → slice_get xs k ≡ Some x → P x) → AllByRecursion P xs
 All_from_slice_get P [] f = tt
 All_from_slice_get P (x ∷ xs) f = (f 0 x refl, All_from_slice_get P xs (λ k. f (suc k)))

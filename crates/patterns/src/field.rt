@@ -1,5 +1,5 @@
 ghost use Rattle.std.specs.Prelude.{◌≡◌, ◌^◌, ◌<◌, ◌≤◌, Bool, true, ◌==◌, nat_eq};
-ghost use Rattle.std.proofs.Common.{lit≤, rules, arith};
+ghost use Rattle.std.proofs.Common.{lit≤, rules};
 ghost use Rattle.std.proofs.lemmas.Bool.{eqb-true};
 ghost use Rattle.patterns.specs.Limited.{port_told};
 
@@ -68,11 +68,11 @@ impl Field for Port {
 
     ghost sample = { record { number = 1; ok = (lit≤ tt, lit≤ tt) } };
 
-    ghost reflexive = { first_of (Prim.search rules, Prim.grind (arith, Self.row.coded.inj)) };
+    ghost reflexive = { Prim.search rules };
 
     ghost identical = { λ a b e. port_told a b (eqb-true a.number b.number e) };
 
-    ghost held = { first_of (Prim.search rules, Prim.grind (arith, Self.row.coded.inj)) };
+    ghost held = { Prim.search rules };
 
     fn equals(self, other: Port) -> bool {
         self.number() == other.number()

@@ -3,7 +3,7 @@ use Rattle.std.proofs.Common.{◌≡◌, ℕ, ◌+◌, ◌-◌, ◌*◌, ◌<◌
 use Rattle.std.proofs.ByRecursion.{All-append, All-map, all_kept_by, All-weaker}
 use Rattle.std.proofs.lemmas.List.{append_assoc, append-nil}
 use Rattle.std.proofs.lemmas.Bool.{cases_lt, ltb-true}
-use Rattle.std.specs.List.{range_with_len, AllByRecursion as All, slice_get}
+use Rattle.std.specs.List.{range_with_len, AllByRecursion, slice_get}
 use Rattle.std.specs.Option.{option_map}
 use Rattle.patterns.proofs.Lists.{slice_get-map, slice_get_front, slice_get_back, slice_get-range_with_len, slice_get_within, All-slice_get, All_any, All_from_slice_get, All-range_with_len}
 use Rattle.rules.specs.declared.row.Row.{Row}
@@ -35,7 +35,7 @@ abbrev Carries : ℕ → Kind → Sent → Type 0
 Carries t k m = kind_of m ≡ k → tag_of m ≡ t
 
 -- A front with all messages of a kind, barriers to n switches, and the rest.
-module _ (front back : List Sent) (n : ℕ) (k : Kind) (low : All (Below n k) front) (rest : All (Free k) (barriers n ++ back)) where
+module _ (front back : List Sent) (n : ℕ) (k : Kind) (low : AllByRecursion (Below n k) front) (rest : AllByRecursion (Free k) (barriers n ++ back)) where
   abbrev whole : List Sent
   whole = front ++ (barriers n ++ back)
 
@@ -55,7 +55,7 @@ module _ (front back : List Sent) (n : ℕ) (k : Kind) (low : All (Below n k) fr
         | inr h ↦ absurd (All-slice_get (Free k) (barriers n ++ back) (i - length front) a rest (sym (slice_get_back front (barriers n ++ back) i h) ∙ st.here) st.kind)
       ]
 
-  fenced : (l : Kind) → All (Free l) (front ++ barriers n) → Fenced whole k l
+  fenced : (l : Kind) → AllByRecursion (Free l) (front ++ barriers n) → Fenced whole k l
   fenced l early i j a b sa sb =
       let long : length (front ++ barriers n) ≡ length front + n = length-append front (barriers n) ∙ ap (λ m. length front + m) (length-barriers n) in
       elim (cases_lt j (length front + n)) [
@@ -68,43 +68,43 @@ module _ (front back : List Sent) (n : ℕ) (k : Kind) (low : All (Below n k) fr
 
 module _ (n : ℕ) (ports : List PortUse) (rules : List Row) (old new : ℕ) where
   -- A list made from any other has no message of another kind.
-  none_made : {X : Type 0} (k : Kind) (f : X → Sent) → ((x : X) → Free k (f x)) → (xs : List X) → All (Free k) (map f xs)
+  none_made : {X : Type 0} (k : Kind) (f : X → Sent) → ((x : X) → Free k (f x)) → (xs : List X) → AllByRecursion (Free k) (map f xs)
   none_made k f free xs = All-map (Free k) f xs (All_any (λ x. Free k (f x)) free xs)
 
-  low_made : {X : Type 0} (k : Kind) (f : X → Sent) → (xs : List X) → All (λ x. switch_of (f x) < n) xs → All (Below n k) (map f xs)
+  low_made : {X : Type 0} (k : Kind) (f : X → Sent) → (xs : List X) → AllByRecursion (λ x. switch_of (f x) < n) xs → AllByRecursion (Below n k) (map f xs)
   low_made k f xs low = All-map (Below n k) f xs (All-weaker (λ x. switch_of (f x) < n) (λ x. Below n k (f x)) (λ x h e. h) xs low)
 
-  free_adds : (k : Kind) → (kind.Add ≡ k → ⊥) → All (Free k) (adds n ports rules new)
+  free_adds : (k : Kind) → (kind.Add ≡ k → ⊥) → AllByRecursion (Free k) (adds n ports rules new)
   free_adds k ne = none_made k (add_of n ports new) (λ r. ne) rules
 
-  free_stamps : (k : Kind) → (kind.Stamp ≡ k → ⊥) → All (Free k) (stamps n ports new)
+  free_stamps : (k : Kind) → (kind.Stamp ≡ k → ⊥) → AllByRecursion (Free k) (stamps n ports new)
   free_stamps k ne = none_made k (stamp_of new) (λ s. ne) (edge_ports_of n ports)
 
-  free_removes : (k : Kind) → (kind.Remove ≡ k → ⊥) → All (Free k) (removes n old)
+  free_removes : (k : Kind) → (kind.Remove ≡ k → ⊥) → AllByRecursion (Free k) (removes n old)
   free_removes k ne = none_made k (remove_of old) (λ s. ne) (range_with_len 0 n)
 
-  free_barriers : (k : Kind) → (kind.Barrier ≡ k → ⊥) → All (Free k) (barriers n)
+  free_barriers : (k : Kind) → (kind.Barrier ≡ k → ⊥) → AllByRecursion (Free k) (barriers n)
   free_barriers k ne = none_made k barrier (λ s. ne) (range_with_len 0 n)
 
   -- What has no message of a kind has none of it that goes astray.
-  low_free : (k : Kind) (xs : List Sent) → All (Free k) xs → All (Below n k) xs
+  low_free : (k : Kind) (xs : List Sent) → AllByRecursion (Free k) xs → AllByRecursion (Below n k) xs
   low_free k xs free = All-weaker (Free k) (Below n k) (λ m f e. absurd (f e)) xs free
 
-  low_adds : OnSwitches n rules (length rules) → All (Below n kind.Add) (adds n ports rules new)
+  low_adds : OnSwitches n rules (length rules) → AllByRecursion (Below n kind.Add) (adds n ports rules new)
   low_adds on =
       low_made kind.Add (add_of n ports new) rules
       (All_from_slice_get (λ (r : Row). r.switch < n) rules (λ k r e. ltb-true r.switch n (ap (on_switch n) (sym e) ∙ on k (slice_get_within rules k r e))))
 
-  edges_within : All (λ (s : Spot). s.switch < n) (edge_ports_of n ports)
+  edges_within : AllByRecursion (λ (s : Spot). s.switch < n) (edge_ports_of n ports)
   edges_within =
       let flat = All-map (λ (s : Spot). s.switch < n) spot_at (range_with_len 0 (n * 16))
       (All-weaker (λ i. i < n * 16) (λ i. (spot_at i).switch < n) (λ i h. omega arith) (range_with_len 0 (n * 16)) (All-range_with_len 0 (n * 16) (n * 16) (omega arith))) in
-      all_kept_by _ (λ (s : Spot). s.switch < n) (spots n) (subst (All (λ (s : Spot). s.switch < n)) (sym (spots_flat n)) flat)
+      all_kept_by _ (λ (s : Spot). s.switch < n) (spots n) (subst (AllByRecursion (λ (s : Spot). s.switch < n)) (sym (spots_flat n)) flat)
 
-  low_stamps : All (Below n kind.Stamp) (stamps n ports new)
+  low_stamps : AllByRecursion (Below n kind.Stamp) (stamps n ports new)
   low_stamps = low_made kind.Stamp (stamp_of new) (edge_ports_of n ports) edges_within
 
-  low_removes : All (Below n kind.Remove) (removes n old)
+  low_removes : AllByRecursion (Below n kind.Remove) (removes n old)
   low_removes = low_made kind.Remove (remove_of old) (range_with_len 0 n) (All-range_with_len 0 n n (omega arith))
 
   abbrev installs : List Sent
@@ -116,13 +116,13 @@ module _ (n : ℕ) (ports : List PortUse) (rules : List Row) (old new : ℕ) whe
   abbrev collects : List Sent
   collects = collecting n old
 
-  free_installing : (k : Kind) → (kind.Add ≡ k → ⊥) → (kind.Barrier ≡ k → ⊥) → All (Free k) installs
+  free_installing : (k : Kind) → (kind.Add ≡ k → ⊥) → (kind.Barrier ≡ k → ⊥) → AllByRecursion (Free k) installs
   free_installing k a b = All-append (Free k) (adds n ports rules new) (barriers n) (free_adds k a) (free_barriers k b)
 
-  free_flipping : (k : Kind) → (kind.Stamp ≡ k → ⊥) → (kind.Barrier ≡ k → ⊥) → All (Free k) flips
+  free_flipping : (k : Kind) → (kind.Stamp ≡ k → ⊥) → (kind.Barrier ≡ k → ⊥) → AllByRecursion (Free k) flips
   free_flipping k s b = All-append (Free k) (stamps n ports new) (barriers n) (free_stamps k s) (free_barriers k b)
 
-  free_collecting : (k : Kind) → (kind.Remove ≡ k → ⊥) → (kind.Barrier ≡ k → ⊥) → All (Free k) collects
+  free_collecting : (k : Kind) → (kind.Remove ≡ k → ⊥) → (kind.Barrier ≡ k → ⊥) → AllByRecursion (Free k) collects
   free_collecting k r b = All-append (Free k) (removes n old) (barriers n) (free_removes k r) (free_barriers k b)
 
   adds_first : OnSwitches n rules (length rules) → (l : Kind) → (kind.Add ≡ l → ⊥) → (kind.Barrier ≡ l → ⊥) → Fenced (series n ports rules old new) kind.Add l
@@ -164,18 +164,18 @@ module _ (n : ℕ) (ports : List PortUse) (rules : List Row) (old new : ℕ) whe
       let long : length (front ++ (barriers n ++ [])) ≡ length front + n = length-append front (barriers n ++ []) ∙ ap (λ m. length front + m) (ap length (append-nil (barriers n)) ∙ length-barriers n) in
       subst Ends parts (λ i a st. followed front [] n kind.Remove low rest i a st (length (front ++ (barriers n ++ []))) (omega arith))
 
-  free_carries : (t : ℕ) (k : Kind) (xs : List Sent) → All (Free k) xs → All (Carries t k) xs
+  free_carries : (t : ℕ) (k : Kind) (xs : List Sent) → AllByRecursion (Free k) xs → AllByRecursion (Carries t k) xs
   free_carries t k xs free = All-weaker (Free k) (Carries t k) (λ m f e. absurd (f e)) xs free
 
-  tagged : (t : ℕ) (k : Kind) → (kind.Barrier ≡ k → ⊥) → All (Carries t k) (adds n ports rules new) → All (Carries t k) (stamps n ports new) → All (Carries t k) (removes n old) → Tagged (series n ports rules old new) k t
+  tagged : (t : ℕ) (k : Kind) → (kind.Barrier ≡ k → ⊥) → AllByRecursion (Carries t k) (adds n ports rules new) → AllByRecursion (Carries t k) (stamps n ports new) → AllByRecursion (Carries t k) (removes n old) → Tagged (series n ports rules old new) k t
   tagged t k b xs ys zs i m posted =
-      let with_barriers = λ (part : List Sent) (all : All (Carries t k) part). All-append (Carries t k) part (barriers n) all (free_carries t k (barriers n) (free_barriers k b)) in
+      let with_barriers = λ (part : List Sent) (all : AllByRecursion (Carries t k) part). All-append (Carries t k) part (barriers n) all (free_carries t k (barriers n) (free_barriers k b)) in
       All-slice_get (Carries t k) (series n ports rules old new) i m
       (All-append (Carries t k) installs (flips ++ collects) (with_barriers (adds n ports rules new) xs)
       (All-append (Carries t k) flips collects (with_barriers (stamps n ports new) ys) (with_barriers (removes n old) zs)))
       posted.here posted.kind
 
-  made_carries : {X : Type 0} (t : ℕ) (k : Kind) (f : X → Sent) → ((x : X) → tag_of (f x) ≡ t) → (xs : List X) → All (Carries t k) (map f xs)
+  made_carries : {X : Type 0} (t : ℕ) (k : Kind) (f : X → Sent) → ((x : X) → tag_of (f x) ≡ t) → (xs : List X) → AllByRecursion (Carries t k) (map f xs)
   made_carries t k f is xs = All-map (Carries t k) f xs (All_any (λ x. Carries t k (f x)) (λ x e. is x) xs)
 
   adds_tagged : Tagged (series n ports rules old new) kind.Add new

@@ -9,7 +9,7 @@ use Rattle.std.specs.List.{flat_map, AllByRecursion}
 use Rattle.std.specs.Str.Parse.{digits_value}
 use Rattle.std.specs.Int.{IsInRange}
 use Rattle.std.specs.Str.{all_ascii_digits}
-use Rattle.scripts.specs.Forms.{entry_value, switch_value, digit_value, pair_value, pairs_value, bytes_value}
+use Rattle.scripts.specs.Forms.{entry_value, switch_value, hex_digit_value, pair_value, pairs_value, bytes_value}
 use Rattle.scripts.specs.Printed.{EntriesReturn, ScriptsReturn, script_text}
 use Rattle.scripts.specs.Splits.{first_line}
 use Rattle.scripts.specs.Texts.{digit_char, byte_text, bytes_text, entry_text}
@@ -29,7 +29,7 @@ switch_back n h =
     let is : min 255 (digits_value 10 (decimal n)) ≡ n = omega (arith, digits_value-decimal own n (omega arith)) in
     sym (after_none (decimal n) (sym (ne_eqb _ _ (λ z. omega (arith, z, some))))) ∙ rw (digits, is)
 
-digit_back : (n : ℕ) → n < 16 → digit_value (digit_char n) ≡ Some n
+digit_back : (n : ℕ) → n < 16 → hex_digit_value (digit_char n) ≡ Some n
 digit_back n h = grind (arith, nat_tests)
 
 pair_back : (b : ℕ) → b < 256 → pair_value (digit_char (b / 16)) (digit_char (b % 16)) ≡ Some b

@@ -17,12 +17,12 @@ switch_value [] = None
 switch_value (c ∷ cs) = cond (all_ascii_digits (c ∷ cs)) (Some (min 255 (digits_value 10 (c ∷ cs)))) None
 
 -- The value of a hex digit: 0 to 9, a to f, or A to F.
-abbrev pub digit_value : ℕ → Option ℕ
-digit_value c =
+abbrev pub hex_digit_value : ℕ → Option ℕ
+hex_digit_value c =
     cond (is_in_range 48 57 c) (Some (c - 48)) (cond (is_in_range 97 102 c) (Some (c - 87)) (cond (is_in_range 65 70 c) (Some (c - 55)) None))
 
 abbrev pub pair_value : ℕ → ℕ → Option ℕ
-pair_value high low = both (λ h l. h * 16 + l) (digit_value high) (digit_value low)
+pair_value high low = both (λ h l. h * 16 + l) (hex_digit_value high) (hex_digit_value low)
 
 -- A byte for each two hex digits.
 abbrev pub pairs_value : List ℕ → Option (List ℕ)

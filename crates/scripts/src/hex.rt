@@ -1,5 +1,5 @@
 ghost use Rattle.std.specs.Prelude.{◌≡◌, ◌<◌, IfSome};
-ghost use Rattle.scripts.specs.Forms.{digit_value, pair_value};
+ghost use Rattle.scripts.specs.Forms.{hex_digit_value, pair_value};
 
 // The byte that two digits write.
 pub(crate) fn byte(high: u8, low: u8) -> Option<u8>
@@ -9,7 +9,7 @@ pub(crate) fn byte(high: u8, low: u8) -> Option<u8>
 }
 
 fn value(digit: u8) -> Option<u8>
-    ensures value { result ≡ digit_value digit }
+    ensures value { result ≡ hex_digit_value digit }
     ensures bound { IfSome result (λ v. v < 16) }
 {
     match digit {

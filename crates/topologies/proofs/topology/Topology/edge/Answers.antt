@@ -10,7 +10,7 @@ invariant_of-self c =
     let i = c.index_of-i.result in
     record {
       few = t.few;
-      all = length-set t.ports i Edge ∙ t.all;
+      all = length-set _ _ _ ∙ t.all;
       paired = edge_paired t.switches t.ports t.few.1 t.all t.paired c.args.at
           c.in_ok-check_port.ensures.inside c.in_ok-check_unused.ensures.unused i c.index_of-i.ensures.place;
     }
