@@ -1,7 +1,6 @@
 -- The text of what the reader answers: a line for each message, for the reply and for a refusal.
-use Rattle.std.specs.Prelude.{ℕ, ◌/◌, ◌%◌, Bool, cond, List, ◌++◌, Ok, Err, codes, decimal, Result}
-use Rattle.patterns.specs.declared.number.Number.{Number}
-use Rattle.patterns.specs.declared.number.Number.TheVariants.{Open, Fixed}
+use Rattle.std.specs.Prelude.{ℕ, ◌/◌, ◌%◌, Bool, cond, List, ◌++◌, Some, Ok, Err, codes, decimal, Option, Result, None}
+use Rattle.refusals.specs.Texts.{refused_text}
 use Rattle.rules.specs.declared.row.Action.{Action}
 use Rattle.rules.specs.declared.row.Action.TheVariants.{Drop, Out}
 use Rattle.rules.specs.declared.row.Block.{Block}
@@ -13,9 +12,14 @@ use Rattle.decoding.specs.Faults.{read_number}
 use Rattle.decoding.specs.declared.fault.ReadFault.{ReadFault}
 use Rattle.decoding.specs.declared.received.Received.{Received}
 
-abbrev pub number_text : Number ℕ → List ℕ
-number_text Open = codes "*"
-number_text (Fixed n) = decimal n
+abbrev pub number_text : Option ℕ → List ℕ
+number_text None = codes "*"
+number_text (Some n) = decimal n
+
+-- What is written of a number pattern, from what is written of a number.
+abbrev pub number_output : {T : Type 0} → (T → Option (List ℕ)) → Option T → Option (List ℕ)
+number_output output None = Some (codes "*")
+number_output output (Some n) = output n
 
 -- The bytes of the address, the most significant first, and the length.
 abbrev pub block_text : Block → List ℕ
@@ -62,4 +66,4 @@ received_text xid length (reply s) =
 
 abbrev pub answer_text : Result Received ReadFault → List ℕ
 answer_text (Ok r) = received_text r.xid r.length (carried r.pdu)
-answer_text (Err fault) = codes "refused " ++ decimal (read_number fault)
+answer_text (Err fault) = refused_text (read_number fault)

@@ -4,6 +4,7 @@ ghost use Rattle.answers.specs.Texts.{answer_text};
 use crate::reading::Reading;
 use decoding::fault::ReadFault;
 use decoding::received::Received;
+use refusals::refused::Refused;
 use std::fmt;
 
 // What the reader answers: what it read, or why it refused.
@@ -14,16 +15,9 @@ impl fmt::Display for Answer {
     ghost output = { λ a. Some (answer_text a.0) };
 
     fn fmt<W: fmt::Write>(&self, f: &mut fmt::Formatter<W>) -> fmt::Result {
-        let Answer(answer) = *self;
-        match answer {
-            Ok(received) => {
-                let reading = Reading(received);
-                write!(f, "{reading}")
-            }
-            Err(fault) => {
-                let number = fault.number();
-                write!(f, "refused {number}")
-            }
+        match self.0 {
+            Ok(received) => write!(f, "{}", Reading(received)),
+            Err(fault) => write!(f, "{}", Refused(fault)),
         }
     }
 }

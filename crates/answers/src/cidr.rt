@@ -12,7 +12,7 @@ impl fmt::Display for Cidr {
     ghost output = { λ c. Some (block_text c.0) };
 
     fn fmt<W: fmt::Write>(&self, f: &mut fmt::Formatter<W>) -> fmt::Result {
-        let Cidr(Block { address, length }) = *self;
+        let Block { address, length } = self.0;
         let [a, b, c, d] = address.to_be_bytes();
         write!(f, "{a}.{b}.{c}.{d}/{length}")
     }

@@ -12,8 +12,7 @@ impl fmt::Display for Output {
     ghost output = { λ o. Some (output_text o.0) };
 
     fn fmt<W: fmt::Write>(&self, f: &mut fmt::Formatter<W>) -> fmt::Result {
-        let Output(action) = *self;
-        match action {
+        match self.0 {
             Action::Drop => write!(f, "drop"),
             Action::Out(port) => write!(f, "{port}"),
         }

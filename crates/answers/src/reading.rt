@@ -16,24 +16,25 @@ impl fmt::Display for Reading {
     ghost output = { λ r. Some (received_text r.0.xid r.0.length (carried r.0.pdu)) };
 
     fn fmt<W: fmt::Write>(&self, f: &mut fmt::Formatter<W>) -> fmt::Result {
-        let Reading(Received { pdu, xid, length }) = *self;
+        let Received { pdu, xid, length } = self.0;
         match pdu {
-            Pdu::Message(message) => match message {
-                Message::Add(add) => {
-                    let added = Added(add);
-                    write!(f, "add xid={xid} {added} length={length}")
-                }
-                Message::Stamp { port, tag, .. } => {
-                    let port = port.number();
-                    let tag = tag.number();
-                    write!(f, "stamp xid={xid} port={port} tag={tag} length={length}")
-                }
-                Message::Remove { tag, .. } => {
-                    let tag = tag.number();
-                    write!(f, "remove xid={xid} tag={tag} length={length}")
-                }
-                Message::Barrier { .. } => write!(f, "barrier xid={xid} length={length}"),
-            },
+            Pdu::Message(Message::Add(add)) => {
+                write!(f, "add xid={xid} {} length={length}", Added(add))
+            }
+            Pdu::Message(Message::Stamp { port, tag, .. }) => {
+                write!(
+                    f,
+                    "stamp xid={xid} port={} tag={} length={length}",
+                    port.number(),
+                    tag.number()
+                )
+            }
+            Pdu::Message(Message::Remove { tag, .. }) => {
+                write!(f, "remove xid={xid} tag={} length={length}", tag.number())
+            }
+            Pdu::Message(Message::Barrier { .. }) => {
+                write!(f, "barrier xid={xid} length={length}")
+            }
             Pdu::Reply { .. } => write!(f, "reply xid={xid} length={length}"),
         }
     }

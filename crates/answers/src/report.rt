@@ -3,7 +3,7 @@ ghost use Rattle.answers.specs.Reports.{LineReport, Report};
 
 use crate::answer::Answer;
 use decoding::reading::read;
-use scripts::lines::cut;
+use scripts::lines::Lines;
 use scripts::parse::parse;
 use std::alloc::{AllocError, Global};
 
@@ -12,7 +12,7 @@ pub fn line_report(heap: Global, number: u64, line: &[u8]) -> Result<String, All
     ensures { IfOk result (λ t. LineReport number line.now (string_bytes t)) }
 {
     match parse(heap, line)? {
-        Some(given) => Answer(read(given.switch, given.bytes.as_slice())).to_string(heap),
+        Some(entry) => Answer(read(entry.switch, &entry.bytes)).to_string(heap),
         None => format!(in heap; "bad line {number}"),
     }
 }
@@ -22,14 +22,8 @@ pub fn report(heap: Global, script: &[u8]) -> Result<String, AllocError>
     ensures { IfOk result (λ t. Report 1 script.now (string_bytes t)) }
 {
     let mut text = String::new(heap);
-    let mut number: u64 = 0;
-    let mut left = script;
-    while let Some((line, rest)) = cut(left) {
-        number += 1;
-        let said = line_report(heap, number, line)?;
-        text.push_str(said.as_str())?;
-        text.push('\n')?;
-        left = rest;
+    for (number, line) in (1..).zip(Lines(script)) {
+        writeln!(text, "{}", line_report(heap, number, line)?)?;
     }
     Ok(text)
 }

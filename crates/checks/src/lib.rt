@@ -1,4 +1,5 @@
 // Tests over the libraries, in a crate of their own, so that the libraries are proved once.
+// `assert_eq!` prints its sides, so values with no `Debug`, as faults, are compared under `assert!`.
 #![tactic(auto)]
 
 #[cfg(test)]

@@ -1,14 +1,10 @@
-use patterns::number::Number;
 use patterns::pair::Pair;
 use patterns::pattern::{Pattern, overlap};
 use patterns::prefix::Prefix;
 use std::test::Fail;
 
 fn prefix(address: u32, length: u8) -> Result<Prefix, Fail> {
-    match Prefix::new(address, length) {
-        Some(prefix) => Ok(prefix),
-        None => Err(Fail::new("no prefix")),
-    }
+    Prefix::new(address, length).ok_or_else(|| Fail::new("no prefix"))
 }
 
 #[test]
@@ -16,13 +12,9 @@ fn a_longer_prefix_inside_a_shorter_is_their_meet(rt: HostRuntime) -> Result<(),
     let short = prefix(0x0a01_0000, 16)?;
     let long = prefix(0x0a01_8000, 17)?;
     assert!(rt; overlap(&long, &short));
-    match short.meet(&long) {
-        Some(meet) => {
-            assert!(rt; meet.address() == 0x0a01_8000 && meet.length() == 17);
-            Ok(())
-        },
-        None => Err(Fail::new("no meet")),
-    }
+    let meet = short.meet(&long).ok_or("no meet")?;
+    assert!(rt; meet.address() == 0x0a01_8000 && meet.length() == 17);
+    Ok(())
 }
 
 #[test]
@@ -52,9 +44,9 @@ fn no_prefix_beyond_its_limits(rt: HostRuntime) {
 
 #[test]
 fn numbers_and_pairs_overlap_by_their_halves(rt: HostRuntime) -> Result<(), Fail> {
-    let tcp: Number<u8> = Number::Fixed(6);
-    let udp: Number<u8> = Number::Fixed(17);
-    let any: Number<u8> = Number::Open;
+    let tcp: Option<u8> = Some(6);
+    let udp: Option<u8> = Some(17);
+    let any: Option<u8> = None;
     assert!(rt; overlap(&tcp, &any));
     assert!(rt; overlap(&tcp, &tcp));
     assert!(rt; !overlap(&tcp, &udp));

@@ -1,7 +1,6 @@
 use crate::samples::{OPEN, drop_to, refusal};
-use patterns::number::Number;
 use patterns::port::Port;
-use rules::fault::RuleFault;
+use rules::fault::{RuleFault, TagFault};
 use rules::header::Header;
 use rules::row::{Action, Block, PatternRow, Row};
 use rules::rule::Rule;
@@ -17,13 +16,14 @@ fn row(switch: u8, pattern: PatternRow, action: Action) -> Row {
     }
 }
 
+// The number of the refusal of a row, or 0 where it makes a rule: the numbers are what the tests expect.
 fn number(row: Row) -> u8 {
-    refusal!(Rule::new(row))
+    refusal(Rule::new(row))
 }
 
 fn with_in_port(port: u8) -> PatternRow {
     PatternRow {
-        in_port: Number::Fixed(port),
+        in_port: Some(port),
         ..OPEN
     }
 }
@@ -42,10 +42,10 @@ fn with_destination(address: u32, length: u8) -> PatternRow {
     }
 }
 
-fn with_port(protocol: Number<u8>, port: u16) -> PatternRow {
+fn with_port(protocol: Option<u8>, port: u16) -> PatternRow {
     PatternRow {
         protocol,
-        destination_port: Number::Fixed(port),
+        destination_port: Some(port),
         ..OPEN
     }
 }
@@ -96,27 +96,15 @@ fn prefixes_at_their_edges(rt: HostRuntime) {
 
 #[test]
 fn a_destination_port_needs_tcp_or_udp(rt: HostRuntime) {
-    assert_eq!(rt;
-        number(row(0, with_port(Number::Fixed(1), 443), Action::Drop)),
-        25
-    );
-    assert_eq!(rt;
-        number(row(0, with_port(Number::Fixed(17), 443), Action::Drop)),
-        0
-    );
-    assert_eq!(rt;
-        number(row(0, with_port(Number::Fixed(6), 443), Action::Drop)),
-        0
-    );
-    assert_eq!(rt;
-        number(row(0, with_port(Number::Open, 443), Action::Drop)),
-        25
-    );
+    assert_eq!(rt; number(row(0, with_port(Some(1), 443), Action::Drop)), 25);
+    assert_eq!(rt; number(row(0, with_port(Some(17), 443), Action::Drop)), 0);
+    assert_eq!(rt; number(row(0, with_port(Some(6), 443), Action::Drop)), 0);
+    assert_eq!(rt; number(row(0, with_port(None, 443), Action::Drop)), 25);
     assert_eq!(rt;
         number(row(
             0,
             PatternRow {
-                protocol: Number::Fixed(1),
+                protocol: Some(1),
                 ..OPEN
             },
             Action::Drop,
@@ -128,7 +116,7 @@ fn a_destination_port_needs_tcp_or_udp(rt: HostRuntime) {
 // Each row has the fault of its number and of all later ones.
 #[test]
 fn the_first_fault_is_named(rt: HostRuntime) {
-    let last = with_port(Number::Fixed(1), 443);
+    let last = with_port(Some(1), 443);
     let bits = PatternRow {
         destination: Block {
             address: 1,
@@ -144,7 +132,7 @@ fn the_first_fault_is_named(rt: HostRuntime) {
         ..bits
     };
     let in_port = PatternRow {
-        in_port: Number::Fixed(20),
+        in_port: Some(20),
         ..length
     };
     assert_eq!(rt; number(row(99, in_port, Action::Out(0))), 21);
@@ -172,7 +160,7 @@ fn the_first_fault_is_named(rt: HostRuntime) {
 }
 
 #[test]
-fn the_source_is_named_before_the_destination(rt: HostRuntime) -> Result<(), Fail> {
+fn the_source_is_named_before_the_destination(rt: HostRuntime) {
     let long = PatternRow {
         source: Block {
             address: 0,
@@ -184,10 +172,7 @@ fn the_source_is_named_before_the_destination(rt: HostRuntime) -> Result<(), Fai
         },
         ..OPEN
     };
-    match Rule::new(row(0, long, Action::Drop)) {
-        Err(RuleFault::Length(length)) => assert_eq!(rt; length, 40),
-        _ => return Err(Fail::new("not 23")),
-    }
+    assert!(rt; Rule::new(row(0, long, Action::Drop)) == Err(RuleFault::Length(40)));
     let stray = PatternRow {
         source: Block {
             address: 3,
@@ -199,71 +184,44 @@ fn the_source_is_named_before_the_destination(rt: HostRuntime) -> Result<(), Fai
         },
         ..OPEN
     };
-    match Rule::new(row(0, stray, Action::Drop)) {
-        Err(RuleFault::StrayBit { address, length }) => {
-            assert!(rt; address == 3 && length == 31);
-            Ok(())
-        },
-        _ => Err(Fail::new("not 24")),
-    }
+    let stray_bit = RuleFault::StrayBit {
+        address: 3,
+        length: 31,
+    };
+    assert!(rt; Rule::new(row(0, stray, Action::Drop)) == Err(stray_bit));
 }
 
 #[test]
-fn refusals_of_a_rule_carry_what_is_at_fault(rt: HostRuntime) -> Result<(), Fail> {
-    match Rule::new(row(200, OPEN, Action::Drop)) {
-        Err(RuleFault::Switch(switch)) => assert_eq!(rt; switch, 200),
-        _ => return Err(Fail::new("not 21")),
-    }
-    match Rule::new(row(0, with_in_port(99), Action::Drop)) {
-        Err(RuleFault::InPort(port)) => assert_eq!(rt; port, 99),
-        _ => return Err(Fail::new("not 22")),
-    }
-    match Rule::new(row(0, with_port(Number::Fixed(1), 443), Action::Drop)) {
-        Err(RuleFault::PortWithoutTransport { port, protocol }) => {
-            assert!(rt; port == 443 && protocol == Number::Fixed(1))
-        }
-        _ => return Err(Fail::new("not 25")),
-    }
-    match Rule::new(row(0, OPEN, Action::Out(44))) {
-        Err(RuleFault::OutPort(port)) => {
-            assert_eq!(rt; port, 44);
-            Ok(())
-        },
-        _ => Err(Fail::new("not 26")),
-    }
+fn refusals_of_a_rule_carry_what_is_at_fault(rt: HostRuntime) {
+    assert!(rt; Rule::new(row(200, OPEN, Action::Drop)) == Err(RuleFault::Switch(200)));
+    assert!(rt; Rule::new(row(0, with_in_port(99), Action::Drop)) == Err(RuleFault::InPort(99)));
+    let without_transport = RuleFault::PortWithoutTransport {
+        port: 443,
+        protocol: Some(1),
+    };
+    assert!(rt; Rule::new(row(0, with_port(Some(1), 443), Action::Drop)) == Err(without_transport));
+    assert!(rt; Rule::new(row(0, OPEN, Action::Out(44))) == Err(RuleFault::OutPort(44)));
 }
 
 #[test]
-fn tags_are_1_to_4094(rt: HostRuntime) -> Result<(), Fail> {
-    assert_eq!(rt; refusal!(Tag::new(0)), 29);
-    assert_eq!(rt; refusal!(Tag::new(1)), 0);
-    assert_eq!(rt; refusal!(Tag::new(4094)), 0);
-    assert_eq!(rt; refusal!(Tag::new(4095)), 29);
-    match Tag::new(5000) {
-        Err(fault) => {
-            assert_eq!(rt; fault.tag, 5000);
-            Ok(())
-        },
-        Ok(_) => Err(Fail::new("a tag")),
-    }
+fn tags_are_1_to_4094(rt: HostRuntime) {
+    assert_eq!(rt; refusal(Tag::new(0)), 29);
+    assert_eq!(rt; refusal(Tag::new(1)), 0);
+    assert_eq!(rt; refusal(Tag::new(4094)), 0);
+    assert_eq!(rt; refusal(Tag::new(4095)), 29);
+    assert!(rt; Tag::new(5000) == Err(TagFault { tag: 5000 }));
 }
 
 fn rule_of(pattern: PatternRow) -> Result<Rule, Fail> {
-    match Rule::new(row(0, pattern, Action::Drop)) {
-        Ok(rule) => Ok(rule),
-        Err(_) => Err(Fail::new("no rule")),
-    }
+    Rule::new(row(0, pattern, Action::Drop)).map_err(|_| Fail::new("no rule"))
 }
 
 fn port(number: u8) -> Result<Port, Fail> {
-    match Port::new(number) {
-        Some(port) => Ok(port),
-        None => Err(Fail::new("no port")),
-    }
+    Port::new(number).ok_or_else(|| Fail::new("no port"))
 }
 
 const FIXED: PatternRow = PatternRow {
-    in_port: Number::Fixed(3),
+    in_port: Some(3),
     source: Block {
         address: 0xc0a8_0000,
         length: 16,
@@ -272,8 +230,8 @@ const FIXED: PatternRow = PatternRow {
         address: 0x0a01_0000,
         length: 16,
     },
-    protocol: Number::Fixed(6),
-    destination_port: Number::Fixed(443),
+    protocol: Some(6),
+    destination_port: Some(443),
 };
 
 // Packets that differ from what a rule admits in one of its five parts.
@@ -328,13 +286,9 @@ fn a_rule_admits_what_all_five_parts_admit(rt: HostRuntime) -> Result<(), Fail> 
 }
 
 fn clash(a: Row, b: Row) -> Result<bool, Fail> {
-    match Rule::new(a) {
-        Ok(first) => match Rule::new(b) {
-            Ok(second) => Ok(first.clashes(second)),
-            Err(_) => Err(Fail::new("no second rule")),
-        },
-        Err(_) => Err(Fail::new("no first rule")),
-    }
+    let first = Rule::new(a).map_err(|_| "no first rule")?;
+    let second = Rule::new(b).map_err(|_| "no second rule")?;
+    Ok(first.clashes(second))
 }
 
 #[test]

@@ -1,20 +1,30 @@
-ghost use Rattle.std.specs.Prelude.{◌≡◌};
+ghost use Rattle.std.specs.Prelude.{◌≡◌, MatchResult};
 ghost use Rattle.rules.specs.declared.row.Action.TheVariants.{Drop};
 
-use patterns::number::Number;
+use configurations::configuration::Configuration;
+use refusals::refusal::Refusal;
 use rules::row::{Action, Block, PatternRow, Row};
+use std::test::Fail;
+use topologies::topology::Topology;
 
-// The number of the refusal that a result holds, or 0 where it holds none.
-macro_rules! refusal {
-    ($result:expr) => {
-        match $result {
-            Ok(_) => 0,
-            Err(fault) => fault.number(),
-        }
-    };
+// The number of the refusal that an outcome holds, or 0 where it holds none: the numbers are what the tests expect.
+pub fn refusal<T: Drop, F: Refusal>(outcome: Result<T, F>) -> u8
+    ensures { MatchResult outcome (λ _. result ≡ 0) (λ fault. result ≡ F.number_of fault) }
+{
+    outcome.err().map_or(0, |fault| fault.number())
 }
 
-pub(crate) use refusal;
+// A topology of so many switches, with no port in use.
+pub fn empty_topology(switches: u8) -> Result<Topology, Fail> {
+    Topology::new(switches).map_err(|_| Fail::new("no topology"))
+}
+
+// The configuration of these rows.
+pub fn configured(rows: &[Row]) -> Result<Configuration<'_>, Fail> {
+    let mut configuration = Configuration::new();
+    configuration.set(rows).map_err(|_| "no configuration")?;
+    Ok(configuration)
+}
 
 const ANY: Block = Block {
     address: 0,
@@ -23,11 +33,11 @@ const ANY: Block = Block {
 
 // The pattern of every packet.
 pub const OPEN: PatternRow = PatternRow {
-    in_port: Number::Open,
+    in_port: None,
     source: ANY,
     destination: ANY,
-    protocol: Number::Open,
-    destination_port: Number::Open,
+    protocol: None,
+    destination_port: None,
 };
 
 // A row that drops every packet.
@@ -46,14 +56,11 @@ pub fn drop_all(switch: u8, priority: u16) -> Row
 pub fn drop_to(switch: u8, priority: u16, address: u32, length: u8) -> Row
     ensures { (result.switch ≡ switch) × (result.priority ≡ priority) × (result.action ≡ Drop) }
 {
-    let destination = Block { address, length };
     Row {
-        switch,
-        priority,
         pattern: PatternRow {
-            destination,
+            destination: Block { address, length },
             ..OPEN
         },
-        action: Action::Drop,
+        ..drop_all(switch, priority)
     }
 }

@@ -1,6 +1,6 @@
 use answers::report::report;
 use scripts::entry::Entry;
-use scripts::lines::cut;
+use scripts::lines::{Lines, cut};
 use scripts::parse::parse;
 use std::alloc::Global;
 use std::test::Fail;
@@ -38,12 +38,12 @@ fn other_lines_are_none(rt: HostRuntime) -> Result<(), Fail> {
 #[test]
 fn an_entry_is_printed_in_decimal_and_hex(rt: HostRuntime) -> Result<(), Fail> {
     let heap = rt.alloc();
-    let some = Entry {
+    let some: Entry<&[u8]> = Entry {
         switch: 13,
         bytes: &[0, 0x9a, 0xff],
     };
     assert_eq!(rt; some.to_string(heap)?.as_str(), "13 009aff");
-    let none = Entry {
+    let none: Entry<&[u8]> = Entry {
         switch: 0,
         bytes: &[],
     };
@@ -69,6 +69,17 @@ fn lines_end_at_a_line_feed_or_with_the_text(rt: HostRuntime) -> Result<(), Fail
     cuts(b"\r", b"", b"")?;
     cuts(b"a\rb", b"a\rb", b"")?;
     cuts(b"ab", b"ab", b"")
+}
+
+#[test]
+fn lines_come_in_order(rt: HostRuntime) -> Result<(), Fail> {
+    let wanted: [&[u8]; 3] = [b"a", b"", b"b"];
+    assert_eq!(rt; Lines(b"a\r\n\nb").count(), wanted.len());
+    for (line, want) in Lines(b"a\r\n\nb").zip(&wanted) {
+        assert_eq!(rt; line, *want);
+    }
+    assert!(rt; Lines(b"").next().is_none());
+    Ok(())
 }
 
 #[test]

@@ -1,13 +1,17 @@
+ghost use Rattle.std.specs.Prelude.{◌<◌};
+
 use crate::accepted::ACCEPTED;
 use crate::samples::refusal;
 use decoding::fault::ReadFault;
 use decoding::reading::read;
 use messages::message::Message;
+use openflow::fault::WriteFault;
 use openflow::frame::LONGEST;
 use openflow::pdu::Pdu;
 use openflow::writing::write;
 use patterns::port::Port;
 use plans::version::Version;
+use refusals::refusal::Refusal;
 use rules::switch::Switch;
 use scripts::parse::parse;
 use std::alloc::Global;
@@ -21,12 +25,8 @@ const STAMP: [u8; 80] = [
 ];
 
 fn stamp(switch: u8) -> Result<Pdu, Fail> {
-    let Some(switch) = Switch::new(switch) else {
-        return Err(Fail::new("no switch"));
-    };
-    let Some(port) = Port::new(1) else {
-        return Err(Fail::new("no port"));
-    };
+    let switch = Switch::new(switch).ok_or("no switch")?;
+    let port = Port::new(1).ok_or("no port")?;
     let tag = Version::Second.tag();
     Ok(Pdu::Message(Message::Stamp { switch, port, tag }))
 }
@@ -35,20 +35,16 @@ fn stamp(switch: u8) -> Result<Pdu, Fail> {
 fn rewritten(heap: Global, line: &str) -> Result<(), Fail> {
     let given = parse(heap, line.as_bytes())?.ok_or("no line")?;
     let bytes = given.bytes.as_slice();
-    let Ok(received) = read(given.switch, bytes) else {
-        return Err(Fail::new("refused"));
-    };
+    let received = read(given.switch, bytes).map_err(|_| "refused")?;
     let mut buffer = [0xaa; 100];
-    let Ok(length) = write(received.pdu, received.xid, &mut buffer) else {
-        return Err(Fail::new("too short"));
-    };
+    let length = write(received.pdu, received.xid, &mut buffer).map_err(|_| "too short")?;
     if received.pdu.switch().number() != given.switch || length != received.length {
         return Err(Fail::new(format_args!("another message at {line}")));
     }
     if length > bytes.len() || length > LONGEST {
         return Err(Fail::new(format_args!("too long at {line}")));
     }
-    if buffer[0..length] != bytes[0..length] || buffer[length..100] != [0xaa; 100][length..100] {
+    if buffer[..length] != bytes[..length] || buffer[length..] != [0xaa; 100][length..] {
         return Err(Fail::new(format_args!("other bytes at {line}")));
     }
     Ok(())
@@ -76,36 +72,28 @@ fn a_stamp_has_the_same_bytes_to_switches_0_and_15(rt: HostRuntime) -> Result<()
 #[test]
 fn a_buffer_too_short_is_left_as_it_was(rt: HostRuntime) -> Result<(), Fail> {
     let mut buffer = [7; 79];
-    match write(stamp(0)?, 5, &mut buffer) {
-        Ok(_) => return Err(Fail::new("written")),
-        Err(fault) => {
-            assert_eq!(rt; fault.number(), 11);
-            assert!(rt; fault.needed == 80 && fault.room == 79);
-        }
-    }
+    let short = WriteFault {
+        needed: 80,
+        room: 79,
+    };
+    let outcome = write(stamp(0)?, 5, &mut buffer);
+    assert_eq!(rt; refusal(outcome), 11);
+    assert!(rt; outcome == Err(short));
     assert!(rt; buffer == [7; 79]);
-    assert_eq!(rt; refusal!(write(stamp(0)?, 5, &mut [])), 11);
+    assert_eq!(rt; refusal(write(stamp(0)?, 5, &mut [])), 11);
     Ok(())
-}
-
-fn fault(switch: u8, bytes: &[u8]) -> Result<ReadFault, Fail> {
-    match read(switch, bytes) {
-        Ok(_) => Err(Fail::new("read")),
-        Err(fault) => Ok(fault),
-    }
 }
 
 // Each of the first four has the fault of the next one, too.
 #[test]
-fn reading_refuses_in_order_and_names_what_is_at_fault(rt: HostRuntime) -> Result<(), Fail> {
-    assert!(rt; fault(16, &[9; 7])? == ReadFault::Switch(16));
-    assert!(rt; fault(15, &[9; 7])? == ReadFault::Short(7));
-    assert!(rt; fault(15, &[9; 8])? == ReadFault::Version(9));
-    assert!(rt; fault(15, &[1, 9, 0, 7, 0, 0, 0, 0])? == ReadFault::Type(9));
-    assert!(rt; fault(15, &[1, 14, 0, 7, 0, 0, 0, 0])? == ReadFault::Length(7));
-    assert!(rt; fault(15, &[1, 14, 1, 8, 0, 0, 0, 0])? == ReadFault::Length(264));
-    assert!(rt; fault(15, &[1, 14, 0, 8, 0, 0, 0, 0])? == ReadFault::NoWriting);
-    Ok(())
+fn reading_refuses_in_order_and_names_what_is_at_fault(rt: HostRuntime) {
+    assert!(rt; read(16, &[9; 7]) == Err(ReadFault::Switch(16)));
+    assert!(rt; read(15, &[9; 7]) == Err(ReadFault::Short(7)));
+    assert!(rt; read(15, &[9; 8]) == Err(ReadFault::Version(9)));
+    assert!(rt; read(15, &[1, 9, 0, 7, 0, 0, 0, 0]) == Err(ReadFault::Type(9)));
+    assert!(rt; read(15, &[1, 14, 0, 7, 0, 0, 0, 0]) == Err(ReadFault::Length(7)));
+    assert!(rt; read(15, &[1, 14, 1, 8, 0, 0, 0, 0]) == Err(ReadFault::Length(264)));
+    assert!(rt; read(15, &[1, 14, 0, 8, 0, 0, 0, 0]) == Err(ReadFault::NoWriting));
 }
 
 #[test]
@@ -119,35 +107,32 @@ fn the_numbers_of_the_refusals_of_reading(rt: HostRuntime) {
 }
 
 // A stamp with one byte turned.
-fn turned(at: usize, byte: u8) -> [u8; 80] {
+fn turned(at: usize, byte: u8) -> [u8; 80]
+    requires { at < 80 }
+{
     let mut bytes = STAMP;
-    if at < 80 {
-        bytes[at] = byte;
-    }
+    bytes[at] = byte;
     bytes
 }
 
 #[test]
-fn a_stamp_of_a_port_or_a_tag_beyond_the_limits_is_no_writing(rt: HostRuntime) -> Result<(), Fail> {
+fn a_stamp_of_a_port_or_a_tag_beyond_the_limits_is_no_writing(rt: HostRuntime) {
     assert!(rt; read(0, &turned(13, 16)).is_ok());
-    assert_eq!(rt; refusal!(read(0, &turned(13, 17))), 5);
-    assert_eq!(rt; refusal!(read(0, &turned(13, 0))), 5);
-    assert_eq!(rt; refusal!(read(0, &turned(12, 1))), 5);
+    assert_eq!(rt; refusal(read(0, &turned(13, 17))), 5);
+    assert_eq!(rt; refusal(read(0, &turned(13, 0))), 5);
+    assert_eq!(rt; refusal(read(0, &turned(12, 1))), 5);
     assert!(rt; read(0, &turned(76, 15)).is_ok());
-    assert_eq!(rt; refusal!(read(0, &turned(76, 16))), 5);
-    assert_eq!(rt; refusal!(read(0, &turned(77, 0))), 5);
-    Ok(())
+    assert_eq!(rt; refusal(read(0, &turned(76, 16))), 5);
+    assert_eq!(rt; refusal(read(0, &turned(77, 0))), 5);
 }
 
 // The highest bit of each byte after the header, but for that of the tag's low byte, where it makes another tag.
 #[test]
-fn a_stamp_with_a_high_bit_turned_is_no_writing(rt: HostRuntime) -> Result<(), Fail> {
-    for at in 8..80 {
+fn a_stamp_with_a_high_bit_turned_is_no_writing(rt: HostRuntime) {
+    for (at, &byte) in STAMP.iter().enumerate().skip(8) {
         if at != 77 {
-            let byte = STAMP[at] ^ 0x80;
-            assert_eq!(rt; refusal!(read(0, &turned(at, byte))), 5, "{}", at);
+            assert_eq!(rt; refusal(read(0, &turned(at, byte ^ 0x80))), 5, "{at}");
         }
     }
     assert!(rt; read(0, &turned(77, 0x82)).is_ok());
-    Ok(())
 }

@@ -1,6 +1,6 @@
-ghost use Rattle.std.specs.Prelude.{◌≡◌};
 ghost use Rattle.configurations.specs.Faults.{configuration_number};
 
+use refusals::refusal::Refusal;
 use rules::fault::RuleFault;
 
 // Why a list of rows is no configuration.
@@ -14,11 +14,10 @@ pub enum ConfigurationFault {
     Clash { later: usize, earlier: usize },
 }
 
-impl ConfigurationFault {
-    // The refusal's number in the table of refusals.
-    pub fn number(self) -> u8
-        ensures { result ≡ configuration_number self }
-    {
+impl Refusal for ConfigurationFault {
+    ghost number_of = { configuration_number };
+
+    fn number(self) -> u8 {
         match self {
             ConfigurationFault::TooMany(_) => 31,
             ConfigurationFault::Row { fault, .. } => fault.number(),

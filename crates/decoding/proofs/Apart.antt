@@ -1,5 +1,5 @@
 -- Messages of one switch that have the same fields are the same message.
-use Rattle.std.proofs.Common.{◌≡◌, ℕ, Bool, true, false, T, sym, refl, ap, ◌∙◌, arith}
+use Rattle.std.proofs.Common.{◌≡◌, Bool, true, false, IsTrue, sym, refl, ap, ◌∙◌, arith}
 use Rattle.rules.specs.declared.row.Action.{Action}
 use Rattle.rules.specs.declared.row.Action.TheVariants as action
 use Rattle.messages.specs.Marks.{goes_out}
@@ -14,23 +14,19 @@ use Rattle.openflow.specs.Fields.{add_actions, add_fields, HasFields}
 use Rattle.decoding.proofs.Rows.{row_told}
 
 -- A drop carries no mark.
-unmarked : (s : Bool) → (T s → false ≡ true) → s ≡ false
-unmarked true h = sym (h tt)
+unmarked : (s : Bool) → (IsTrue s → false ≡ true) → s ≡ false
+unmarked true h = sym (h refl)
 unmarked false h = refl
 
--- Two constructors that differ are never equal.
-clash : {A : Type 0} → ◌≡◌ {A = ℕ} 0 1 → A
-clash e = absurd (omega arith)
-
-actions_apart : (a b : Action) (s t : Bool) → (T s → goes_out a ≡ true) → (T t → goes_out b ≡ true) → add_actions a s ≡ add_actions b t → (a ≡ b) × (s ≡ t)
+actions_apart : (a b : Action) (s t : Bool) → (IsTrue s → goes_out a ≡ true) → (IsTrue t → goes_out b ≡ true) → add_actions a s ≡ add_actions b t → (a ≡ b) × (s ≡ t)
 actions_apart action.Drop action.Drop s t h k e = (refl, unmarked s h ∙ sym (unmarked t k))
-actions_apart action.Drop (action.Out q) s true h k e = clash (cc)
-actions_apart action.Drop (action.Out q) s false h k e = clash (cc)
-actions_apart (action.Out p) action.Drop true t h k e = clash (cc)
-actions_apart (action.Out p) action.Drop false t h k e = clash (cc)
+actions_apart action.Drop (action.Out q) s true h k e = cc
+actions_apart action.Drop (action.Out q) s false h k e = cc
+actions_apart (action.Out p) action.Drop true t h k e = cc
+actions_apart (action.Out p) action.Drop false t h k e = cc
 actions_apart (action.Out p) (action.Out q) true true h k e = (cc, refl)
-actions_apart (action.Out p) (action.Out q) true false h k e = clash (cc)
-actions_apart (action.Out p) (action.Out q) false true h k e = clash (cc)
+actions_apart (action.Out p) (action.Out q) true false h k e = cc
+actions_apart (action.Out p) (action.Out q) false true h k e = cc
 actions_apart (action.Out p) (action.Out q) false false h k e = (cc, refl)
 
 adds_apart : (a b : Add) (f : FlowMod) → a.rule.row.switch ≡ b.rule.row.switch → add_fields a.tag.number a.rule.row a.strip ≡ f → add_fields b.tag.number b.rule.row b.strip ≡ f → a ≡ b

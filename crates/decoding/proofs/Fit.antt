@@ -1,8 +1,7 @@
 -- The fields of a message fit, since its numbers do.
-use Rattle.std.proofs.Common.{◌≡◌, ℕ, ◌^◌, ◌<◌, Bool, true, false, is_some, subst, arith, lit<}
+use Rattle.std.proofs.Common.{◌≡◌, ℕ, ◌^◌, ◌<◌, Bool, true, false, is_some, subst, arith, lit<, Some, None, Option}
 use Rattle.patterns.specs.Numbers.{fixed_fits}
-use Rattle.patterns.specs.declared.number.Number.{Number}
-use Rattle.patterns.specs.declared.number.Number.TheVariants.{Open, Fixed}
+use Rattle.std.specs.Option.{unwrap_or}
 use Rattle.rules.specs.Limits.{out_port_fault}
 use Rattle.rules.specs.declared.row.Action.{Action}
 use Rattle.rules.specs.declared.row.Action.TheVariants as action
@@ -10,10 +9,10 @@ use Rattle.messages.specs.Sent.{sent}
 use Rattle.messages.specs.declared.add.Add.{Add}
 use Rattle.messages.specs.declared.message.Message.{Message}
 use Rattle.messages.specs.declared.message.Message.TheVariants as message
-use Rattle.openflow.specs.declared.flow_mod.Actions.{Actions}
+use Rattle.openflow.specs.declared.action.Actions.{Actions}
 use Rattle.openflow.specs.declared.flow_mod.FlowMod.{FlowMod}
 use Rattle.openflow.specs.Carried.{message as carried_message}
-use Rattle.openflow.specs.Fields.{fixed_or, add_actions, add_fields, HasFields}
+use Rattle.openflow.specs.Fields.{add_actions, add_fields, HasFields}
 use Rattle.decoding.specs.Reading.{Fits}
 use Rattle.decoding.proofs.Offsets.{ActionsFit, FieldsFit}
 use Rattle.decoding.proofs.Rows.{limits, small_port, one_bit, at_most_one}
@@ -23,9 +22,9 @@ actions_fit action.Drop strip h = tt
 actions_fit (action.Out p) true h = omega (arith, small_port p _ h)
 actions_fit (action.Out p) false h = omega (arith, small_port p _ h)
 
-number_fits : (n : Number ℕ) → fixed_fits (λ v. v < 2 ^ 16) n → fixed_or n 0 < 2 ^ 16
-number_fits Open h = omega arith
-number_fits (Fixed v) h = h
+number_fits : (n : Option ℕ) → fixed_fits (λ v. v < 2 ^ 16) n → unwrap_or n 0 < 2 ^ 16
+number_fits None h = omega arith
+number_fits (Some v) h = h
 
 add_fit : (a : Add) → Fits (carried_message (sent (message.Add a))) → FieldsFit (add_fields a.tag.number a.rule.row a.strip)
 add_fit a h =

@@ -1,8 +1,8 @@
 -- The fields of a flow-mod stand at their offsets.
 use Rattle.std.proofs.Common.{◌≡◌, ℕ, ◌+◌, ◌*◌, ◌/◌, ◌%◌, ◌^◌, ◌<◌, ◌++◌, length, refl, ap, arith}
 use Rattle.std.proofs.lemmas.Nat.{shr-shr}
-use Rattle.openflow.specs.declared.flow_mod.Actions.{Actions}
-use Rattle.openflow.specs.declared.flow_mod.Actions.TheVariants.{Empty, Output, StripOutput, SetVlan}
+use Rattle.openflow.specs.declared.action.Actions.{Actions}
+use Rattle.openflow.specs.declared.action.Actions.TheVariants.{Empty, Output, StripOutput, SetVlan}
 use Rattle.openflow.specs.declared.flow_mod.FlowMod.{FlowMod}
 use Rattle.openflow.specs.Layout.{be2, be4, header, match_part, command_part, actions_part, flow_mod}
 use Rattle.decoding.specs.Offsets.{at2, at4, actions_at, fields_at}

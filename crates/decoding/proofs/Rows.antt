@@ -3,19 +3,19 @@ use Rattle.std.proofs.Common.{◌≡◌, ℕ, ◌+◌, ◌-◌, ◌*◌, ◌/◌
 use Rattle.std.proofs.lemmas.Bool.{true≢false, leb-true, and_parts}
 use Rattle.std.specs.Option.{option_or}
 use Rattle.patterns.specs.Limits.{is_port}
-use Rattle.patterns.specs.declared.number.Number.{Number}
-use Rattle.patterns.specs.declared.number.Number.TheVariants.{Open, Fixed}
-use Rattle.rules.specs.Limits.{unless, in_port_fault, out_port_fault, Makes, switch_fault, length_fault, bits_fault, transport_fault}
+use Rattle.std.specs.Option.{unwrap_or}
+use Rattle.refusals.specs.Tests.{unless}
+use Rattle.rules.specs.Limits.{in_port_fault, out_port_fault, Makes, switch_fault, length_fault, bits_fault, transport_fault}
 use Rattle.rules.specs.declared.fault.RuleFault.{RuleFault}
 use Rattle.rules.specs.declared.row.Action.{Action}
 use Rattle.rules.specs.declared.row.Row.{Row}
 use Rattle.openflow.specs.declared.flow_mod.FlowMod.{FlowMod}
-use Rattle.openflow.specs.Fields.{open_bit, fixed_or, add_fields}
+use Rattle.openflow.specs.Fields.{open_bit, add_fields}
 
 -- The limits that the fields of an add rest on.
 pub record Limits (r : Row) : Type 0 where
   pub switch : r.switch ≤ 15
-  pub in_port : fixed_or r.pattern.in_port 0 ≤ 16
+  pub in_port : unwrap_or r.pattern.in_port 0 ≤ 16
   pub source : r.pattern.source.length ≤ 32
   pub destination : r.pattern.destination.length ≤ 32
   pub out : is_some (out_port_fault r.action) ≡ false
@@ -32,9 +32,9 @@ granted false f e = absurd (true≢false e)
 pub small_port : (p : ℕ) (f : RuleFault) → is_some (unless (is_port p) f) ≡ false → p ≤ 16
 small_port p f e = leb-true p 16 (and_parts (leb 1 p) (leb p 16) (granted _ f e)).1
 
-port_small : (n : Number ℕ) → is_some (in_port_fault n) ≡ false → fixed_or n 0 ≤ 16
-port_small Open e = omega arith
-port_small (Fixed p) e = small_port p _ e
+port_small : (n : Option ℕ) → is_some (in_port_fault n) ≡ false → unwrap_or n 0 ≤ 16
+port_small None e = omega arith
+port_small (Some p) e = small_port p _ e
 
 pub limits : (r : Row) → Makes r → Limits r
 limits r m =
@@ -55,26 +55,26 @@ limits r m =
     }
 
 -- An open number sets one bit of the wildcards, or none.
-pub one_bit : (n : Number ℕ) (bit : ℕ) → open_bit n bit ≡ open_bit n 1 * bit
-one_bit Open bit = omega arith
-one_bit (Fixed v) bit = omega arith
+pub one_bit : (n : Option ℕ) (bit : ℕ) → open_bit n bit ≡ open_bit n 1 * bit
+one_bit None bit = omega arith
+one_bit (Some v) bit = omega arith
 
-pub at_most_one : (n : Number ℕ) → open_bit n 1 ≤ 1
-at_most_one Open = omega arith
-at_most_one (Fixed v) = omega arith
+pub at_most_one : (n : Option ℕ) → open_bit n 1 ≤ 1
+at_most_one None = omega arith
+at_most_one (Some v) = omega arith
 
 -- The parts of the wildcards.
-abbrev word : (i p d : Number ℕ) (x y : ℕ) → ℕ
+abbrev word : (i p d : Option ℕ) (x y : ℕ) → ℕ
 word i p d x y = 0x30004C + open_bit i 1 + open_bit p 0x20 + open_bit d 0x80 + x * 0x100 + y * 0x4000
 
-record Parts (i p d : Number ℕ) (x y w : ℕ) : Type 0 where
+record Parts (i p d : Option ℕ) (x y w : ℕ) : Type 0 where
   in_port : w / 2 ^ 0 % 2 ≡ open_bit i 1
   protocol : w / 2 ^ 5 % 2 ≡ open_bit p 1
   port : w / 2 ^ 7 % 2 ≡ open_bit d 1
   source : w / 2 ^ 8 % 64 ≡ x
   destination : w / 2 ^ 14 % 64 ≡ y
 
-parts : (i p d : Number ℕ) (x y w : ℕ) → x ≤ 32 → y ≤ 32 → w ≡ word i p d x y → Parts i p d x y w
+parts : (i p d : Option ℕ) (x y w : ℕ) → x ≤ 32 → y ≤ 32 → w ≡ word i p d x y → Parts i p d x y w
 parts i p d x y w xs ys e =
     let protocol = one_bit p 0x20 in
     let port = one_bit d 0x80 in
@@ -83,18 +83,18 @@ parts i p d x y w xs ys e =
     let c = at_most_one d in
     record { in_port = omega arith; protocol = omega arith; port = omega arith; source = omega arith; destination = omega arith }
 
-number_told : (n : Number ℕ) (k v : ℕ) → k ≡ open_bit n 1 → v ≡ fixed_or n 0 → cond (eqb k 1) Open (Fixed v) ≡ n
-number_told Open k v e f = rw e
-number_told (Fixed w) k v e f = rw (e, f)
+number_told : (n : Option ℕ) (k v : ℕ) → k ≡ open_bit n 1 → v ≡ unwrap_or n 0 → cond (eqb k 1) None (Some v) ≡ n
+number_told None k v e f = rw e
+number_told (Some w) k v e f = rw (e, f)
 
 -- The row that is read off the fields of an add is the add's own. What was read, f and v to d, is the code's.
 pub row_told :
-    (rule : Row) (tag : ℕ) (strip : Bool) (f : FlowMod) (s v source destination : ℕ) (i p d : Number ℕ) (a : Action)
+    (rule : Row) (tag : ℕ) (strip : Bool) (f : FlowMod) (s v source destination : ℕ) (i p d : Option ℕ) (a : Action)
     → Makes rule → rule.switch ≡ s → add_fields tag rule strip ≡ f
-    → v ≡ f.in_port % 256 → i ≡ cond (eqb (f.wildcards / 2 ^ 0 % 2) 1) Open (Fixed v)
+    → v ≡ f.in_port % 256 → i ≡ cond (eqb (f.wildcards / 2 ^ 0 % 2) 1) None (Some v)
     → source ≡ 32 - f.wildcards / 2 ^ 8 % 64 → destination ≡ 32 - f.wildcards / 2 ^ 14 % 64
-    → p ≡ cond (eqb (f.wildcards / 2 ^ 5 % 2) 1) Open (Fixed f.protocol)
-    → d ≡ cond (eqb (f.wildcards / 2 ^ 7 % 2) 1) Open (Fixed f.destination_port)
+    → p ≡ cond (eqb (f.wildcards / 2 ^ 5 % 2) 1) None (Some f.protocol)
+    → d ≡ cond (eqb (f.wildcards / 2 ^ 7 % 2) 1) None (Some f.destination_port)
     → a ≡ rule.action
     → ◌≡◌ {A = Row} (record {
       switch = s;
@@ -112,7 +112,7 @@ row_told rule tag strip f s v source destination i p d a makes to e ve ie se de 
     let l = limits rule makes in
     let q = rule.pattern in
     let w = parts q.in_port q.protocol q.destination_port _ _ _ (omega arith) (omega arith) (ap (λ g. g.wildcards) (sym e)) in
-    let port : f.in_port ≡ fixed_or q.in_port 0 = ap (λ g. g.in_port) (sym e) in
+    let port : f.in_port ≡ unwrap_or q.in_port 0 = ap (λ g. g.in_port) (sym e) in
     let i_is : i ≡ q.in_port = ie ∙ number_told q.in_port _ v w.in_port (omega arith) in
     let p_is : p ≡ q.protocol = pe ∙ number_told q.protocol _ _ w.protocol (ap (λ g. g.protocol) (sym e)) in
     let d_is : d ≡ q.destination_port = qe ∙ number_told q.destination_port _ _ w.port (ap (λ g. g.destination_port) (sym e)) in

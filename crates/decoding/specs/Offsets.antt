@@ -1,7 +1,7 @@
 -- Where the fields of a flow-mod stand: the layout told by offsets.
 use Rattle.std.specs.Prelude.{ℕ, ◌+◌, ◌*◌, cond, List, length, ◌==◌, nat_le, nat_lt, slice_index}
-use Rattle.openflow.specs.declared.flow_mod.Actions.{Actions}
-use Rattle.openflow.specs.declared.flow_mod.Actions.TheVariants as actions
+use Rattle.openflow.specs.declared.action.Actions.{Actions}
+use Rattle.openflow.specs.declared.action.Actions.TheVariants as actions
 use Rattle.openflow.specs.declared.flow_mod.FlowMod.{FlowMod}
 
 -- The number of one, two or four bytes at an offset.

@@ -1,6 +1,7 @@
 -- Which answer reading gives, on every byte string.
-use Rattle.std.specs.Prelude.{◌≡◌, ℕ, Bool, ◌^◌, ◌<◌, ◌&&◌, cond, List, length, take, Some, None, Ok, Err, Option, Result, ◌==◌, nat_le}
+use Rattle.std.specs.Prelude.{◌≡◌, ℕ, ◌^◌, ◌<◌, ◌&&◌, List, length, take, Some, None, Ok, Err, Option, Result, ◌==◌, nat_le}
 use Rattle.std.specs.Option.{option_or}
+use Rattle.refusals.specs.Tests.{unless}
 use Rattle.patterns.specs.Numbers.{fixed_fits}
 use Rattle.rules.specs.declared.row.Row.{Row}
 use Rattle.messages.specs.Sent.{add, stamp, remove, barrier}
@@ -14,20 +15,16 @@ use Rattle.openflow.specs.Kinds.{is_type}
 use Rattle.openflow.specs.Layout.{wire}
 use Rattle.decoding.specs.Offsets.{at1, at2}
 
--- The refusal where the test fails.
-abbrev pub refused_unless : Bool → ReadFault → Option ReadFault
-refused_unless test f = cond test None (Some f)
-
 abbrev pub switch_fault : ℕ → Option ReadFault
-switch_fault s = refused_unless (nat_le s 15) (fault.Switch s)
+switch_fault s = unless (nat_le s 15) (fault.Switch s)
 
 -- The refusal of a header, in the order of the tests.
 abbrev pub header_fault : List ℕ → Option ReadFault
 header_fault b =
-    option_or (refused_unless (nat_le 8 (length b)) (fault.Short (length b))) (
-    option_or (refused_unless (at1 b 0 == 1) (fault.Version (at1 b 0))) (
-    option_or (refused_unless (is_type (at1 b 1)) (fault.Type (at1 b 1)))
-    (refused_unless (nat_le 8 (at2 b 2) && nat_le (at2 b 2) (length b)) (fault.Length (at2 b 2)))))
+    option_or (unless (nat_le 8 (length b)) (fault.Short (length b))) (
+    option_or (unless (at1 b 0 == 1) (fault.Version (at1 b 0))) (
+    option_or (unless (is_type (at1 b 1)) (fault.Type (at1 b 1)))
+    (unless (nat_le 8 (at2 b 2) && nat_le (at2 b 2) (length b)) (fault.Length (at2 b 2)))))
 
 -- The numbers of a rule fit their types, as those of every rule that code can hold do. Its other numbers, and those of
 -- the other messages, are within their limits by their own types.

@@ -1,5 +1,9 @@
 ghost use Rattle.std.specs.Prelude.{◌≡◌};
 ghost use Rattle.decoding.specs.Faults.{read_number};
+ghost use Rattle.decoding.specs.declared.fault.ReadFault.TheVariants as fault;
+
+use openflow::kind::UnknownType;
+use refusals::refusal::Refusal;
 
 // Why bytes are not read, with what is at fault.
 #[derive(Clone, Copy, PartialEq, Eq)]
@@ -15,11 +19,18 @@ pub enum ReadFault {
     NoWriting,
 }
 
-impl ReadFault {
-    // The refusal's number in the table of refusals.
-    pub fn number(self) -> u8
-        ensures { result ≡ read_number self }
-    {
+impl From<UnknownType> for ReadFault {
+    ghost from_gives = { λ unknown refusal. refusal ≡ fault.Type unknown.0 };
+
+    fn from(unknown: UnknownType) -> ReadFault {
+        ReadFault::Type(unknown.0)
+    }
+}
+
+impl Refusal for ReadFault {
+    ghost number_of = { read_number };
+
+    fn number(self) -> u8 {
         match self {
             ReadFault::Switch(_) => 21,
             ReadFault::Short(_) => 1,

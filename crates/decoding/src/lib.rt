@@ -5,3 +5,4 @@ pub mod fault;
 pub mod reading;
 pub mod received;
 mod telling;
+mod wildcards;

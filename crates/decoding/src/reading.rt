@@ -23,12 +23,10 @@ fn check_switch(number: u8) -> Result<Switch, ReadFault>
     ensures refusal { result_err result ≡ switch_fault number }
     ensures value { IfOk result (λ s. s.number ≡ number) }
 {
-    match Switch::new(number) {
-        Some(switch) => Ok(switch),
-        None => Err(ReadFault::Switch(number)),
-    }
+    Switch::new(number).ok_or(ReadFault::Switch(number))
 }
 
+// One for each width, since `from_be_bytes` belongs to no trait.
 fn u16_at(bytes: &[u8], at: usize) -> u16
     requires { at + 2 ≤ length bytes.now }
     ensures { result ≡ at2 bytes.now at }
@@ -44,6 +42,7 @@ fn u32_at(bytes: &[u8], at: usize) -> u32
 }
 
 // The message or reply of this type whose writing these bytes are. Other bytes may give one too: its writing will differ.
+// The switch and the bytes stay two arguments, as they are of `read`.
 fn candidate(kind: Kind, switch: Switch, bytes: &[u8]) -> Option<Pdu>
     requires { type_number kind ≡ at1 bytes.now 1 }
     ensures told { (p : Pdu) (xid : ℕ) → Writing switch.number bytes.now p xid → result ≡ Some p }
@@ -64,9 +63,7 @@ pub fn read(switch: u8, bytes: &[u8]) -> Result<Received, ReadFault>
     let switch = check_switch(switch)?;
     let Header { kind, length, xid } = check_header(bytes)?;
     let whole = &bytes[0..length];
-    let Some(pdu) = candidate(kind, switch, whole) else {
-        return Err(ReadFault::NoWriting);
-    };
+    let pdu = candidate(kind, switch, whole).ok_or(ReadFault::NoWriting)?;
     let frame = Frame::of(pdu, xid);
     if frame.as_slice() != whole {
         return Err(ReadFault::NoWriting);

@@ -1,5 +1,4 @@
-ghost use Rattle.std.specs.Prelude.{◌≡◌, ℕ, ◌-◌, ◌/◌, ◌%◌, ◌^◌, ◌<◌, ◌≤◌, Bool, true, false, T, is_some, IfSome, if◌then◌else◌, Some, nat_eq};
-ghost use Rattle.patterns.specs.declared.number.Number.TheVariants.{Open, Fixed};
+ghost use Rattle.std.specs.Prelude.{◌≡◌, ℕ, ◌-◌, ◌/◌, ◌%◌, ◌^◌, ◌<◌, ◌≤◌, Bool, true, false, IsTrue, is_some, IfSome, if◌then◌else◌, Some, nat_eq};
 ghost use Rattle.patterns.specs.declared.port.Port.{Port};
 ghost use Rattle.rules.specs.Limits.{out_port_fault, Makes};
 ghost use Rattle.rules.specs.declared.row.Action.{Action};
@@ -12,41 +11,22 @@ ghost use Rattle.messages.specs.declared.add.Add.{Add};
 ghost use Rattle.messages.specs.declared.message.Message.{Message};
 ghost use Rattle.openflow.specs.Fields.{add_actions, add_fields, stamp_fields, remove_fields, HasFields};
 
+use crate::wildcards::{DESTINATION, DESTINATION_PORT, IN_PORT, PROTOCOL, SOURCE, Wildcards};
 use messages::add::Add;
 use messages::message::Message;
-use openflow::flow_mod::{Actions, FlowMod};
-use patterns::number::Number;
+use openflow::action::Actions;
+use openflow::flow_mod::FlowMod;
 use patterns::port::Port;
 use rules::row::{Action, Block, PatternRow, Row};
 use rules::rule::Rule;
 use rules::switch::Switch;
 use rules::tag::Tag;
 
-// A part of a word: what stands from a bit on, of so many values.
-fn part(word: u32, bit: u32, values: u32) -> u32
-    requires { (bit < 32) × (1 ≤ values) }
-    ensures { result ≡ word / 2 ^ bit % values }
+// A number pattern, from whether any number goes.
+fn number<T: Drop>(any: bool, value: T) -> Option<T>
+    ensures { result ≡ (if any then None else Some value) }
 {
-    (word >> bit) % values
-}
-
-// A prefix length, from how many last bits are open. More than 32 stand for 32.
-fn prefix_length(wildcards: u32, bit: u32) -> u8
-    requires { bit < 32 }
-    ensures { result ≡ 32 - wildcards / 2 ^ bit % 64 }
-{
-    32u8.saturating_sub(part(wildcards, bit, 64) as u8)
-}
-
-fn number<T: Drop>(wildcards: u32, bit: u32, value: T) -> Number<T>
-    requires { bit < 32 }
-    ensures { result ≡ (if nat_eq (wildcards / 2 ^ bit % 2) 1 then Open else Fixed value) }
-{
-    if part(wildcards, bit, 2) == 1 {
-        Number::Open
-    } else {
-        Number::Fixed(value)
-    }
+    if any { None } else { Some(value) }
 }
 
 // A port is below 256; of any other number, some port.
@@ -87,77 +67,94 @@ fn action(list: Actions) -> Action
 
 // The mark of the add whose actions these are.
 fn strips(list: Actions) -> bool
-    ensures { (a : Action) (strip : Bool) → (T strip → goes_out a ≡ true) → add_actions a strip ≡ list → result ≡ strip }
+    ensures { (a : Action) (strip : Bool) → (IsTrue strip → goes_out a ≡ true) → add_actions a strip ≡ list → result ≡ strip }
 {
-    match list {
-        Actions::StripOutput(_) => true,
-        _ => false,
-    }
+    matches!(list, Actions::StripOutput(_))
 }
 
-// The row of the add whose fields these are; of others, some row.
-fn row(f: FlowMod, switch: Switch) -> Row
-    ensures told { (rule : Row) (tag : ℕ) (strip : Bool) → Makes rule → rule.switch ≡ switch.number → add_fields tag rule strip ≡ f → result ≡ rule }
-    ensures to { result.switch ≡ switch.number }
-{
-    Row {
-        switch: switch.number(),
-        priority: f.priority,
-        pattern: PatternRow {
-            in_port: number(f.wildcards, 0, low_byte(f.in_port)),
-            source: Block {
-                address: f.source,
-                length: prefix_length(f.wildcards, 8),
+// The fields of a flow-mod, and the switch that it goes to.
+#[derive(Clone, Copy)]
+pub struct Addressed {
+    pub fields: FlowMod,
+    pub switch: Switch,
+}
+
+// That a message goes to its switch is a promise about each result: the switch is a field of the message's own.
+impl Addressed {
+    // The row of the add whose fields these are; of others, some row.
+    fn row(self) -> Row
+        ensures told { (rule : Row) (tag : ℕ) (strip : Bool) → Makes rule → rule.switch ≡ self.switch.number → add_fields tag rule strip ≡ self.fields → result ≡ rule }
+        ensures to { result.switch ≡ self.switch.number }
+    {
+        let f = self.fields;
+        let wildcards = Wildcards(f.wildcards);
+        Row {
+            switch: self.switch.number(),
+            priority: f.priority,
+            pattern: PatternRow {
+                in_port: number(wildcards.is_open(IN_PORT), low_byte(f.in_port)),
+                source: Block {
+                    address: f.source,
+                    length: wildcards.prefix_length(SOURCE),
+                },
+                destination: Block {
+                    address: f.destination,
+                    length: wildcards.prefix_length(DESTINATION),
+                },
+                protocol: number(wildcards.is_open(PROTOCOL), f.protocol),
+                destination_port: number(wildcards.is_open(DESTINATION_PORT), f.destination_port),
             },
-            destination: Block {
-                address: f.destination,
-                length: prefix_length(f.wildcards, 14),
-            },
-            protocol: number(f.wildcards, 5, f.protocol),
-            destination_port: number(f.wildcards, 7, f.destination_port),
-        },
-        action: action(f.actions),
+            action: action(f.actions),
+        }
     }
-}
 
-fn add_message(f: FlowMod, switch: Switch) -> Option<Message>
-    ensures told { (a : Add) → a.rule.row.switch ≡ switch.number → add_fields a.tag.number a.rule.row a.strip ≡ f → result ≡ Some (Message.Add a) }
-    ensures to { IfSome result (λ m. switch_of (sent m) ≡ switch.number) }
-{
-    let tag = tag(f.vlan)?;
-    let rule = rule(row(f, switch))?;
-    Some(Message::Add(Add::new(tag, rule, strips(f.actions))))
-}
+    fn add(self) -> Option<Message>
+        ensures told { (a : Add) → a.rule.row.switch ≡ self.switch.number → add_fields a.tag.number a.rule.row a.strip ≡ self.fields → result ≡ Some (Message.Add a) }
+        ensures to { IfSome result (λ m. switch_of (sent m) ≡ self.switch.number) }
+    {
+        let tag = tag(self.fields.vlan)?;
+        let rule = rule(self.row())?;
+        Some(Message::Add(Add::new(tag, rule, strips(self.fields.actions))))
+    }
 
-fn stamp_message(f: FlowMod, switch: Switch) -> Option<Message>
-    ensures told { (port : Port) (tag : Tag) → stamp_fields port.number tag.number ≡ f → result ≡ Some (Message.Stamp switch port tag) }
-    ensures to { IfSome result (λ m. switch_of (sent m) ≡ switch.number) }
-{
-    let Actions::SetVlan(vlan) = f.actions else {
-        return None;
-    };
-    let port = port(f.in_port)?;
-    let tag = tag(vlan)?;
-    Some(Message::Stamp { switch, port, tag })
-}
+    fn stamp(self) -> Option<Message>
+        ensures told { (port : Port) (tag : Tag) → stamp_fields port.number tag.number ≡ self.fields → result ≡ Some (Message.Stamp self.switch port tag) }
+        ensures to { IfSome result (λ m. switch_of (sent m) ≡ self.switch.number) }
+    {
+        let Actions::SetVlan(vlan) = self.fields.actions else {
+            return None;
+        };
+        let port = port(self.fields.in_port)?;
+        let tag = tag(vlan)?;
+        Some(Message::Stamp {
+            switch: self.switch,
+            port,
+            tag,
+        })
+    }
 
-fn remove_message(f: FlowMod, switch: Switch) -> Option<Message>
-    ensures told { (tag : Tag) → remove_fields tag.number ≡ f → result ≡ Some (Message.Remove switch tag) }
-    ensures to { IfSome result (λ m. switch_of (sent m) ≡ switch.number) }
-{
-    let tag = tag(f.vlan)?;
-    Some(Message::Remove { switch, tag })
-}
+    fn remove(self) -> Option<Message>
+        ensures told { (tag : Tag) → remove_fields tag.number ≡ self.fields → result ≡ Some (Message.Remove self.switch tag) }
+        ensures to { IfSome result (λ m. switch_of (sent m) ≡ self.switch.number) }
+    {
+        let tag = tag(self.fields.vlan)?;
+        Some(Message::Remove {
+            switch: self.switch,
+            tag,
+        })
+    }
 
-// The message whose fields these are. Fields of no message may give one too: its bytes will differ.
-pub fn message(f: FlowMod, switch: Switch) -> Option<Message>
-    ensures told { (m : Message) → switch_of (sent m) ≡ switch.number → HasFields (sent m) f → result ≡ Some m }
-    ensures to { IfSome result (λ m. switch_of (sent m) ≡ switch.number) }
-{
-    match f.command {
-        3 => remove_message(f, switch),
-        0 if f.vlan == 0xffff => stamp_message(f, switch),
-        0 => add_message(f, switch),
-        _ => None,
+    // The message whose fields these are. Fields of no message may give one too: its bytes will differ.
+    pub fn message(self) -> Option<Message>
+        ensures told { (m : Message) → switch_of (sent m) ≡ self.switch.number → HasFields (sent m) self.fields → result ≡ Some m }
+        ensures to { IfSome result (λ m. switch_of (sent m) ≡ self.switch.number) }
+    {
+        // By the number on the wire, as the layout's table has it.
+        match self.fields.command {
+            3 => self.remove(),
+            0 if self.fields.vlan == 0xffff => self.stamp(),
+            0 => self.add(),
+            _ => None,
+        }
     }
 }

@@ -1,2 +1,2 @@
+pub mod Granted
 pub mod Worked
-pub mod WorkedBytes

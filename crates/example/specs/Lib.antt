@@ -1,3 +1,3 @@
 pub mod Site
 pub mod Cases
-pub mod ByteCases
+pub mod Faults

@@ -1,6 +1,5 @@
 -- The example: switches 0 and 1, edge ports 0/1 and 1/1, a link 0/2–1/2, and two rules for 10.1.0.0/16.
-use Rattle.std.specs.Prelude.{ℕ, List, [], ◌∷◌, replicate}
-use Rattle.patterns.specs.declared.number.Number.TheVariants.{Open}
+use Rattle.std.specs.Prelude.{ℕ, List, [], ◌∷◌, replicate, None}
 use Rattle.rules.specs.declared.row.Action.TheVariants.{Out}
 use Rattle.rules.specs.declared.row.Block.{Block}
 use Rattle.rules.specs.declared.row.PatternRow.{PatternRow}
@@ -22,11 +21,11 @@ block address length = record { address = address; length = length }
 -- Destination 10.1.0.0/16, otherwise open.
 abbrev pub site_pattern : PatternRow
 site_pattern = record {
-  in_port = Open;
+  in_port = None;
   source = block 0 0;
   destination = block 0x0a01_0000 16;
-  protocol = Open;
-  destination_port = Open;
+  protocol = None;
+  destination_port = None;
 }
 
 abbrev pub site_rule : ℕ → ℕ → Row

@@ -1,6 +1,7 @@
 // The example site, and worked cases under the definitions.
 #![tactic(auto)]
 
-pub mod byte_cases;
 pub mod cases;
+pub mod fault;
+pub mod planning;
 pub mod site;

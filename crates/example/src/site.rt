@@ -1,7 +1,6 @@
 ghost use Rattle.std.specs.Prelude.{◌≡◌, true, is_ok, IfOk};
 ghost use Rattle.example.specs.Site.{site_ports, site_rules};
 
-use patterns::number::Number;
 use rules::row::{Action, Block, PatternRow, Row};
 use topologies::fault::TopologyFault;
 use topologies::spot::Spot;
@@ -28,14 +27,14 @@ pub fn rows() -> [Row; 2]
         length: 0,
     };
     let pattern = PatternRow {
-        in_port: Number::Open,
+        in_port: None,
         source: any,
         destination: Block {
             address: 0x0a01_0000,
             length: 16,
         },
-        protocol: Number::Open,
-        destination_port: Number::Open,
+        protocol: None,
+        destination_port: None,
     };
     [
         Row {

@@ -1,5 +1,5 @@
 -- Messages are told by their numbers, since the parts that carry limits are.
-use Rattle.std.proofs.Common.{◌≡◌, ◌≤◌, true, false, not, T, eqb, is_some, ap}
+use Rattle.std.proofs.Common.{◌≡◌, ◌≤◌, true, false, IsTrue, is_some, ap}
 use mathlib.Core.Bool.{Bool-set}
 use mathlib.Core.HLevel.{is_prop→PathP, →_prop}
 use native.Mathlib.Bridge.{le_prop}
@@ -8,10 +8,8 @@ use Rattle.rules.specs.Limits.{Makes, row_fault}
 use Rattle.rules.specs.declared.rule.Rule.{Rule}
 use Rattle.rules.specs.declared.switch.Switch.{Switch}
 use Rattle.rules.specs.declared.tag.Tag.{Tag}
-use Rattle.messages.proofs.Apart.{rank, apart}
-use Rattle.messages.specs.Lines.{kind_of}
 use Rattle.messages.specs.Marks.{goes_out}
-use Rattle.messages.specs.Sent.{Sent, sent}
+use Rattle.messages.specs.Sent.{sent}
 use Rattle.messages.specs.declared.add.Add.{Add}
 use Rattle.messages.specs.declared.message.Message.{Message}
 use Rattle.messages.specs.declared.message.Message.TheVariants as message
@@ -30,29 +28,26 @@ added a b p q r = λ i. record {
   tag = p i;
   rule = q i;
   strip = r i;
-  marked = is_prop→PathP (λ i. T (r i) → goes_out (q i).row.action ≡ true) (λ i. →_prop (Bool-set (goes_out (q i).row.action) true)) a.marked b.marked i;
+  marked = is_prop→PathP (λ i. IsTrue (r i) → goes_out (q i).row.action ≡ true) (λ i. →_prop (Bool-set (goes_out (q i).row.action) true)) a.marked b.marked i;
 }
-
-never : {A : Type 0} (m n : Sent) → T (not (eqb (rank (kind_of m)) (rank (kind_of n)))) → m ≡ n → A
-never m n t e = absurd (apart (kind_of m) (kind_of n) t (ap kind_of e))
 
 pub told : (a b : Message) → sent a ≡ sent b → a ≡ b
 told (message.Add a) (message.Add b) e =
     ap message.Add (added a b (tag a.tag b.tag (cc)) (rule a.rule b.rule (cc)) (cc))
-told (message.Add a) (message.Stamp s p t) e = never _ _ tt e
-told (message.Add a) (message.Remove s t) e = never _ _ tt e
-told (message.Add a) (message.Barrier s) e = never _ _ tt e
-told (message.Stamp s p t) (message.Add b) e = never _ _ tt e
+told (message.Add a) (message.Stamp s p t) e = cc
+told (message.Add a) (message.Remove s t) e = cc
+told (message.Add a) (message.Barrier s) e = cc
+told (message.Stamp s p t) (message.Add b) e = cc
 told (message.Stamp s p t) (message.Stamp s' p' t') e =
     let x = switch s s' (cc) in let y = port_told p p' (cc) in let z = tag t t' (cc) in λ i. message.Stamp (x i) (y i) (z i)
-told (message.Stamp s p t) (message.Remove s' t') e = never _ _ tt e
-told (message.Stamp s p t) (message.Barrier s') e = never _ _ tt e
-told (message.Remove s t) (message.Add b) e = never _ _ tt e
-told (message.Remove s t) (message.Stamp s' p' t') e = never _ _ tt e
+told (message.Stamp s p t) (message.Remove s' t') e = cc
+told (message.Stamp s p t) (message.Barrier s') e = cc
+told (message.Remove s t) (message.Add b) e = cc
+told (message.Remove s t) (message.Stamp s' p' t') e = cc
 told (message.Remove s t) (message.Remove s' t') e =
     let x = switch s s' (cc) in let z = tag t t' (cc) in λ i. message.Remove (x i) (z i)
-told (message.Remove s t) (message.Barrier s') e = never _ _ tt e
-told (message.Barrier s) (message.Add b) e = never _ _ tt e
-told (message.Barrier s) (message.Stamp s' p' t') e = never _ _ tt e
-told (message.Barrier s) (message.Remove s' t') e = never _ _ tt e
+told (message.Remove s t) (message.Barrier s') e = cc
+told (message.Barrier s) (message.Add b) e = cc
+told (message.Barrier s) (message.Stamp s' p' t') e = cc
+told (message.Barrier s) (message.Remove s' t') e = cc
 told (message.Barrier s) (message.Barrier s') e = ap message.Barrier (switch s s' (cc))

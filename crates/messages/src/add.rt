@@ -1,4 +1,4 @@
-ghost use Rattle.std.specs.Prelude.{◌≡◌, true, ◌&&◌, T};
+ghost use Rattle.std.specs.Prelude.{◌≡◌, true, ◌&&◌, IsTrue};
 ghost use Rattle.messages.specs.Marks.{goes_out};
 
 use rules::row::Action;
@@ -10,8 +10,9 @@ use rules::tag::Tag;
 pub struct Add {
     tag: Tag,
     rule: Rule,
+    // A mark of its own and no sign that another field counts, so it is no `Option`.
     strip: bool,
-    ghost marked: { (T strip → goes_out rule.row.action ≡ true) },
+    ghost marked: { (IsTrue strip → goes_out rule.row.action ≡ true) },
 }
 
 impl Add {
@@ -19,10 +20,7 @@ impl Add {
     pub fn new(tag: Tag, rule: Rule, strip: bool) -> Add
         ensures { (result.tag ≡ tag) × (result.rule ≡ rule) × (result.strip ≡ (goes_out rule.row.action && strip)) }
     {
-        let out = match rule.row().action {
-            Action::Drop => false,
-            Action::Out(_) => true,
-        };
+        let out = matches!(rule.row().action, Action::Out(_));
         Add {
             tag,
             rule,

@@ -15,7 +15,7 @@ pub enum Kind {
     Barrier,
 }
 
-// A message as a line of a listing, with 0 for a number that it does not have.
+// A message as a line of a listing, with 0 for a number that it does not have: a line is its columns, as they are printed.
 #[derive(Clone, Copy, PartialEq, Eq)]
 pub struct Line {
     pub xid: u32,
@@ -27,6 +27,7 @@ pub struct Line {
 }
 
 impl Line {
+    // Of two things, so no `From`.
     pub fn of(xid: u32, message: Message) -> Line
         ensures { result ≡ line_of xid (sent message) }
     {
@@ -53,16 +54,16 @@ impl Line {
     }
 }
 
-impl Kind {
-    fn name(self) -> &'static str
-        ensures { result.now ≡ kind_text self }
-    {
-        match self {
+impl fmt::Display for Kind {
+    ghost output = { λ k. Some (kind_text k) };
+
+    fn fmt<W: fmt::Write>(&self, f: &mut fmt::Formatter<W>) -> fmt::Result {
+        f.write_str(match self {
             Kind::Add => "add",
             Kind::Stamp => "stamp",
             Kind::Remove => "remove",
             Kind::Barrier => "barrier",
-        }
+        })
     }
 }
 
@@ -78,7 +79,6 @@ impl fmt::Display for Line {
             port,
             bytes,
         } = *self;
-        let name = kind.name();
-        write!(f, "{xid} {switch} {name} {tag} {port} {bytes}")
+        write!(f, "{xid} {switch} {kind} {tag} {port} {bytes}")
     }
 }

@@ -3,8 +3,8 @@ use Rattle.std.proofs.Common.{◌≡◌, ℕ, ◌+◌, ◌≤◌, Bool, true, fa
 use Rattle.rules.specs.declared.row.Action.{Action}
 use Rattle.rules.specs.declared.row.Action.TheVariants.{Drop, Out}
 use Rattle.messages.specs.Sent.{add, stamp, remove, barrier, actions_length}
-use Rattle.openflow.specs.declared.flow_mod.Actions.{Actions}
-use Rattle.openflow.specs.declared.flow_mod.Actions.TheVariants as actions
+use Rattle.openflow.specs.declared.action.Actions.{Actions}
+use Rattle.openflow.specs.declared.action.Actions.TheVariants as actions
 use Rattle.openflow.specs.declared.flow_mod.FlowMod.{FlowMod}
 use Rattle.openflow.specs.Carried.{Carried, message, reply, carried_length}
 use Rattle.openflow.specs.Fields.{add_actions}

@@ -1,24 +1,19 @@
 -- The fields of each flow-mod: add, stamp and remove.
-use Rattle.std.specs.Prelude.{◌≡◌, ℕ, ◌+◌, ◌-◌, ◌*◌, Bool, cond}
-use Rattle.patterns.specs.declared.number.Number.{Number}
-use Rattle.patterns.specs.declared.number.Number.TheVariants.{Open, Fixed}
+use Rattle.std.specs.Prelude.{◌≡◌, ℕ, ◌+◌, ◌-◌, ◌*◌, Bool, cond, Some, None, Option}
+use Rattle.std.specs.Option.{unwrap_or}
 use Rattle.rules.specs.declared.row.Action.{Action}
 use Rattle.rules.specs.declared.row.Action.TheVariants as action
 use Rattle.rules.specs.declared.row.PatternRow.{PatternRow}
 use Rattle.rules.specs.declared.row.Row.{Row}
 use Rattle.messages.specs.Sent.{Sent, add, stamp, remove, barrier}
-use Rattle.openflow.specs.declared.flow_mod.Actions.{Actions}
-use Rattle.openflow.specs.declared.flow_mod.Actions.TheVariants as actions
+use Rattle.openflow.specs.declared.action.Actions.{Actions}
+use Rattle.openflow.specs.declared.action.Actions.TheVariants as actions
 use Rattle.openflow.specs.declared.flow_mod.FlowMod.{FlowMod}
 
--- What a number pattern adds to the wildcards, and its value on the wire.
-abbrev pub open_bit : {N : Type 0} → Number N → ℕ → ℕ
-open_bit Open bit = bit
-open_bit (Fixed v) bit = 0
-
-abbrev pub fixed_or : {N : Type 0} → Number N → N → N
-fixed_or Open other = other
-fixed_or (Fixed v) other = v
+-- What a number pattern adds to the wildcards.
+abbrev pub open_bit : {N : Type 0} → Option N → ℕ → ℕ
+open_bit None bit = bit
+open_bit (Some v) bit = 0
 
 -- Which parts of the match are open, and how many last bits of each address.
 abbrev pub wildcards_of : PatternRow → ℕ
@@ -33,13 +28,13 @@ add_actions (action.Out p) strip = cond strip (actions.StripOutput p) (actions.O
 abbrev pub add_fields : (tag : ℕ) (rule : Row) (strip : Bool) → FlowMod
 add_fields tag rule strip = record {
   wildcards = wildcards_of rule.pattern;
-  in_port = fixed_or rule.pattern.in_port 0;
+  in_port = unwrap_or rule.pattern.in_port 0;
   vlan = tag;
   ethernet_type = 0x0800;
-  protocol = fixed_or rule.pattern.protocol 0;
+  protocol = unwrap_or rule.pattern.protocol 0;
   source = rule.pattern.source.address;
   destination = rule.pattern.destination.address;
-  destination_port = fixed_or rule.pattern.destination_port 0;
+  destination_port = unwrap_or rule.pattern.destination_port 0;
   command = 0;
   priority = rule.priority;
   flags = 2;

@@ -1,8 +1,8 @@
 -- OpenFlow 1.0 on the wire: the bytes of each message and of the reply to a barrier. Numbers are big-endian.
 use Rattle.std.specs.Prelude.{ℕ, ◌+◌, ◌/◌, ◌%◌, List, [], ◌∷◌, ◌++◌, length, replicate}
 use Rattle.messages.specs.Sent.{add, stamp, remove, barrier}
-use Rattle.openflow.specs.declared.flow_mod.Actions.{Actions}
-use Rattle.openflow.specs.declared.flow_mod.Actions.TheVariants as actions
+use Rattle.openflow.specs.declared.action.Actions.{Actions}
+use Rattle.openflow.specs.declared.action.Actions.TheVariants as actions
 use Rattle.openflow.specs.declared.flow_mod.FlowMod.{FlowMod}
 use Rattle.openflow.specs.Carried.{Carried, message, reply}
 use Rattle.openflow.specs.Fields.{add_fields, stamp_fields, remove_fields}

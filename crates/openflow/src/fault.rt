@@ -1,5 +1,6 @@
-ghost use Rattle.std.specs.Prelude.{◌≡◌};
 ghost use Rattle.openflow.specs.Faults.{write_number};
+
+use refusals::refusal::Refusal;
 
 // A buffer shorter than what is to be written into it.
 #[derive(Clone, Copy, PartialEq, Eq)]
@@ -8,11 +9,10 @@ pub struct WriteFault {
     pub room: usize,
 }
 
-impl WriteFault {
-    // The refusal's number in the table of refusals.
-    pub fn number(self) -> u8
-        ensures { result ≡ write_number self }
-    {
+impl Refusal for WriteFault {
+    ghost number_of = { write_number };
+
+    fn number(self) -> u8 {
         11
     }
 }

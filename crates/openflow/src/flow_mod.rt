@@ -1,29 +1,11 @@
 ghost use Rattle.std.specs.Prelude.{◌≡◌};
-ghost use Rattle.openflow.specs.Fields.{open_bit, fixed_or, wildcards_of, add_actions, add_fields, stamp_fields, remove_fields};
+ghost use Rattle.openflow.specs.Fields.{open_bit, wildcards_of, add_actions, add_fields, stamp_fields, remove_fields};
 
+use crate::action::Actions;
 use messages::add::Add;
-use patterns::number::Number;
 use patterns::port::Port;
 use rules::row::{Action, PatternRow};
 use rules::tag::Tag;
-
-// The types of action.
-pub const OUTPUT: u16 = 0;
-
-pub const SET_VLAN: u16 = 1;
-
-pub const STRIP_VLAN: u16 = 3;
-
-// The lists of actions that messages have, as numbers on the wire.
-#[derive(Clone, Copy, PartialEq, Eq)]
-pub enum Actions {
-    // Drop what matches; a remove has none either.
-    Empty,
-    Output(u16),
-    // Take the tag off, then send.
-    StripOutput(u16),
-    SetVlan(u16),
-}
 
 // The fields in which flow-mods differ, in the order in which they lie; an open value is zero.
 #[derive(Clone, Copy, PartialEq, Eq)]
@@ -36,29 +18,36 @@ pub struct FlowMod {
     pub source: u32,
     pub destination: u32,
     pub destination_port: u16,
+    // A number, since reading takes it off before it knows that it is a command of ours.
     pub command: u16,
     pub priority: u16,
     pub flags: u16,
     pub actions: Actions,
 }
 
+// The numbers below are the layout's, written where its tables have them.
+
+// The fields of which a message says nothing.
+const BLANK: FlowMod = FlowMod {
+    wildcards: 0,
+    in_port: 0,
+    vlan: 0,
+    ethernet_type: 0,
+    protocol: 0,
+    source: 0,
+    destination: 0,
+    destination_port: 0,
+    command: 0,
+    priority: 0,
+    flags: 0,
+    actions: Actions::Empty,
+};
+
 // What an open pattern adds to the wildcards.
-fn open_bit<T: Drop>(pattern: Number<T>, bit: u32) -> u32
+fn open_bit<T: Drop>(pattern: Option<T>, bit: u32) -> u32
     ensures { result ≡ open_bit pattern bit }
 {
-    match pattern {
-        Number::Open => bit,
-        Number::Fixed(_) => 0,
-    }
-}
-
-fn fixed_or<T: Drop>(pattern: Number<T>, other: T) -> T
-    ensures { result ≡ fixed_or pattern other }
-{
-    match pattern {
-        Number::Open => other,
-        Number::Fixed(value) => value,
-    }
+    if pattern.is_none() { bit } else { 0 }
 }
 
 fn wildcards(pattern: PatternRow) -> u32
@@ -84,6 +73,7 @@ fn add_actions(action: Action, strip: bool) -> Actions
     }
 }
 
+// Made by name, since `From<Tag>` would not say which.
 impl FlowMod {
     pub fn add(add: Add) -> FlowMod
         ensures { result ≡ add_fields add.tag.number add.rule.row add.strip }
@@ -92,13 +82,13 @@ impl FlowMod {
         let pattern = row.pattern;
         FlowMod {
             wildcards: wildcards(pattern),
-            in_port: u16::from(fixed_or(pattern.in_port, 0)),
+            in_port: u16::from(pattern.in_port.unwrap_or(0)),
             vlan: add.tag().number(),
             ethernet_type: 0x0800,
-            protocol: fixed_or(pattern.protocol, 0),
+            protocol: pattern.protocol.unwrap_or(0),
             source: pattern.source.address,
             destination: pattern.destination.address,
-            destination_port: fixed_or(pattern.destination_port, 0),
+            destination_port: pattern.destination_port.unwrap_or(0),
             command: 0,
             priority: row.priority,
             flags: 2,
@@ -113,15 +103,9 @@ impl FlowMod {
             wildcards: 0x003f_fffc,
             in_port: u16::from(port.number()),
             vlan: 0xffff,
-            ethernet_type: 0,
-            protocol: 0,
-            source: 0,
-            destination: 0,
-            destination_port: 0,
-            command: 0,
             priority: 65_535,
-            flags: 0,
             actions: Actions::SetVlan(tag.number()),
+            ..BLANK
         }
     }
 
@@ -130,17 +114,9 @@ impl FlowMod {
     {
         FlowMod {
             wildcards: 0x003f_fffd,
-            in_port: 0,
             vlan: tag.number(),
-            ethernet_type: 0,
-            protocol: 0,
-            source: 0,
-            destination: 0,
-            destination_port: 0,
             command: 3,
-            priority: 0,
-            flags: 0,
-            actions: Actions::Empty,
+            ..BLANK
         }
     }
 }

@@ -1,5 +1,5 @@
-ghost use Rattle.std.specs.Prelude.{◌≡◌, is_some, IfSome};
-ghost use Rattle.openflow.specs.Kinds.{type_number, is_type};
+ghost use Rattle.std.specs.Prelude.{◌≡◌};
+ghost use Rattle.openflow.specs.Kinds.{type_number, Decodes};
 
 // The version of OpenFlow 1.0 in a header.
 pub const VERSION: u8 = 1;
@@ -12,27 +12,34 @@ pub enum Kind {
     Reply,
 }
 
-impl Kind {
-    // The type's number in a header.
-    pub fn number(self) -> u8
-        ensures { result ≡ type_number self }
-    {
-        match self {
+// A number that is no type of ours.
+#[derive(Clone, Copy, PartialEq, Eq)]
+pub struct UnknownType(pub u8);
+
+// The type's number in a header.
+impl From<Kind> for u8 {
+    ghost from_gives = { λ kind number. number ≡ type_number kind };
+
+    fn from(kind: Kind) -> u8 {
+        match kind {
             Kind::FlowMod => 14,
             Kind::Barrier => 18,
             Kind::Reply => 19,
         }
     }
+}
 
-    pub fn of(number: u8) -> Option<Kind>
-        ensures test { is_some result ≡ is_type number }
-        ensures value { IfSome result (λ k. type_number k ≡ number) }
-    {
+impl TryFrom<u8> for Kind {
+    type Error = UnknownType;
+
+    ghost try_from_gives = { Decodes };
+
+    fn try_from(number: u8) -> Result<Kind, UnknownType> {
         match number {
-            14 => Some(Kind::FlowMod),
-            18 => Some(Kind::Barrier),
-            19 => Some(Kind::Reply),
-            _ => None,
+            14 => Ok(Kind::FlowMod),
+            18 => Ok(Kind::Barrier),
+            19 => Ok(Kind::Reply),
+            _ => Err(UnknownType(number)),
         }
     }
 }

@@ -5,6 +5,7 @@ use messages::message::Message;
 use rules::switch::Switch;
 
 // A protocol data unit, what a control connection carries at a time: a message to a switch, or a switch's reply.
+// Not a `Result`, since neither is a failure.
 #[derive(Clone, Copy, PartialEq, Eq)]
 pub enum Pdu {
     Message(Message),

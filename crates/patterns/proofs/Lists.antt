@@ -1,24 +1,11 @@
 -- What stands at a place of a list.
-use Rattle.std.proofs.Common.{◌≡◌, ℕ, zero, suc, ◌+◌, ◌-◌, ◌<◌, ◌≤◌, List, [], ◌∷◌, ◌++◌, map, length, get_or, is_some, Some, Option, sym, refl, ap, ◌∙◌, subst, inl, inr, arith}
-use native.Mathlib.Nat.{sub-zero}
+use Rattle.std.proofs.Common.{◌≡◌, ℕ, zero, suc, ◌+◌, ◌-◌, ◌<◌, ◌≤◌, List, [], ◌∷◌, ◌++◌, map, length, get_or, inl, inr, Some, Option, sym, refl, ap, ◌∙◌, subst, arith}
 use Rattle.std.proofs.lemmas.List.FromFn.{length-range_with_len, get_or-range_with_len}
 use Rattle.std.proofs.ByRecursion.{All-get_or}
-use Rattle.std.proofs.lemmas.Option.{slice_get-get_or, slice_get_past}
-use Rattle.std.proofs.lemmas.Bool.{cases_lt, false≢true}
+use Rattle.std.proofs.lemmas.Option.{slice_get-get_or, slice_get_within, slice_get-map}
+use Rattle.std.proofs.lemmas.Bool.{cases_lt}
 use Rattle.std.specs.List.{range_with_len, AllByRecursion, slice_get}
 use Rattle.std.specs.Option.{option_map}
-
-pub slice_get_within : {X : Type 0} (xs : List X) (k : ℕ) (x : X) → slice_get xs k ≡ Some x → k < length xs
-slice_get_within xs k x e =
-    elim (cases_lt k (length xs)) [
-      | inl h ↦ h
-      | inr h ↦ absurd (false≢true (ap is_some (sym (slice_get_past xs k h) ∙ e)))
-    ]
-
-pub slice_get-map : {X Y : Type 0} (f : X → Y) (xs : List X) (k : ℕ) → slice_get (map f xs) k ≡ option_map f (slice_get xs k)
-slice_get-map f [] k = refl
-slice_get-map f (x ∷ xs) zero = refl
-slice_get-map f (x ∷ xs) (suc k) = slice_get-map f xs k
 
 pub slice_get_front : {X : Type 0} (xs ys : List X) (k : ℕ) → k < length xs → slice_get (xs ++ ys) k ≡ slice_get xs k
 slice_get_front [] ys k h = absurd (omega (arith, h))
@@ -26,7 +13,7 @@ slice_get_front (x ∷ xs) ys zero h = refl
 slice_get_front (x ∷ xs) ys (suc k) h = slice_get_front xs ys k (omega (arith, h))
 
 pub slice_get_back : {X : Type 0} (xs ys : List X) (k : ℕ) → length xs ≤ k → slice_get (xs ++ ys) k ≡ slice_get ys (k - length xs)
-slice_get_back [] ys k h = ap (slice_get ys) (sym (sub-zero k))
+slice_get_back [] ys k h = ap (slice_get ys) (omega arith)
 slice_get_back (x ∷ xs) ys zero h = absurd (omega (arith, h))
 slice_get_back (x ∷ xs) ys (suc k) h = slice_get_back xs ys k (omega (arith, h)) ∙ ap (slice_get ys) (omega arith)
 
@@ -34,13 +21,13 @@ slice_get_back (x ∷ xs) ys (suc k) h = slice_get_back xs ys k (omega (arith, h
 pub mapped_at : {X Y : Type 0} (f : X → Y) (xs : List X) (k : ℕ) (o : Option X) → o ≡ slice_get xs k → option_map f o ≡ slice_get (map f xs) k
 mapped_at f xs k o e = ap (option_map f) e ∙ sym (slice_get-map f xs k)
 
--- A list in two parts, the first of which has n elements.
-module _ {X : Type 0} (xs ys : List X) (n k : ℕ) (long : length xs ≡ n) (o : Option X) where
-  pub in_front : k < n → o ≡ slice_get xs k → o ≡ slice_get (xs ++ ys) k
-  in_front h e = e ∙ sym (slice_get_front xs ys k (rw long h))
-
-  pub in_back : n ≤ k → o ≡ slice_get ys (k - n) → o ≡ slice_get (xs ++ ys) k
-  in_back h e = e ∙ sym (slice_get_back xs ys k (rw long h) ∙ ap (λ m. slice_get ys (k - m)) long)
+-- What stands at a place of a list in two parts, the first of which has n elements. P and Q say how it was found in each.
+pub joined_at : {X P Q : Type 0} (xs ys : List X) (n k : ℕ) (o : Option X) → length xs ≡ n → (k < n → P) → (n ≤ k → Q) → (P → o ≡ slice_get xs k) → (Q → o ≡ slice_get ys (k - n)) → o ≡ slice_get (xs ++ ys) k
+joined_at xs ys n k o long found after front back =
+    elim (cases_lt k n) [
+      | inl h ↦ front (found h) ∙ sym (slice_get_front xs ys k (rw long h))
+      | inr h ↦ back (after h) ∙ sym (slice_get_back xs ys k (rw long h) ∙ ap (λ m. slice_get ys (k - m)) long)
+    ]
 
 -- Counting from 0, each number stands at its place.
 pub slice_get-range_with_len : (n k : ℕ) → k < n → slice_get (range_with_len 0 n) k ≡ Some k

@@ -1,18 +1,16 @@
 -- Number patterns: one number, or all. `same` tells whether two numbers are equal.
-use Rattle.std.specs.Prelude.{Bool, true, cond, Some, None, Option}
-use Rattle.patterns.specs.declared.number.Number.{Number}
-use Rattle.patterns.specs.declared.number.Number.TheVariants.{Open, Fixed}
+use Rattle.std.specs.Prelude.{Bool, true, Some, None, Option, if◌then◌else◌}
 
-abbrev pub admits_number : {N : Type 0} → (N → N → Bool) → Number N → N → Bool
-admits_number same Open x = true
-admits_number same (Fixed v) x = same v x
+abbrev pub admits_number : {N : Type 0} → (N → N → Bool) → Option N → N → Bool
+admits_number same None x = true
+admits_number same (Some v) x = same v x
 
-abbrev pub meet_number : {N : Type 0} → (N → N → Bool) → Number N → Number N → Option (Number N)
-meet_number same Open b = Some b
-meet_number same (Fixed v) Open = Some (Fixed v)
-meet_number same (Fixed v) (Fixed w) = cond (same v w) (Some (Fixed v)) None
+abbrev pub meet_number : {N : Type 0} → (N → N → Bool) → Option N → Option N → Option (Option N)
+meet_number same None b = Some b
+meet_number same (Some v) None = Some (Some v)
+meet_number same (Some v) (Some w) = if same v w then Some (Some v) else None
 
 -- The number of a pattern, if it is fixed, can be held by its type.
-abbrev pub fixed_fits : {N : Type 0} → (N → Type 0) → Number N → Type 0
-fixed_fits fits Open = Unit {0}
-fixed_fits fits (Fixed v) = fits v
+abbrev pub fixed_fits : {N : Type 0} → (N → Type 0) → Option N → Type 0
+fixed_fits fits None = Unit {0}
+fixed_fits fits (Some v) = fits v

@@ -4,40 +4,34 @@ ghost use Rattle.patterns.specs.NumberLaws.{exact as exact_numbers, shared as sh
 use crate::field::Field;
 use crate::pattern::Pattern;
 
-// A number pattern: one number, or all.
-#[derive(Clone, Copy, PartialEq, Eq)]
-pub enum Number<T> {
-    Open,
-    Fixed(T),
-}
-
-impl<T: Field + Drop> Pattern for Number<T> {
+// A number pattern: `Some(n)` admits one number, `None` all.
+impl<T: Field + Drop> Pattern for Option<T> {
     type Subject = T;
 
-    ghost admitting = { admits_number T.Field.same };
+    ghost admitting = { admits_number T.eq };
 
-    ghost meeting = { meet_number T.Field.same };
+    ghost meeting = { meet_number T.eq };
 
     ghost fits = { T.Field.fits };
 
     ghost sound = { fixed_fits T.Field.fits };
 
-    ghost exact = { exact_numbers T.Field.same T.Field.reflexive T.Field.identical };
+    ghost exact = { exact_numbers T.eq T.Eq.laws };
 
-    ghost shared = { shared_numbers T.Field.same T.Field.reflexive T.Field.identical T.Field.fits T.Field.sample T.Field.held };
+    ghost shared = { shared_numbers T.eq T.Eq.laws T.Field.fits T.Field.sample T.Field.held };
 
     fn admits(&self, x: &T) -> bool {
-        match *self {
-            Number::Open => true,
-            Number::Fixed(v) => v.equals(*x),
+        match self {
+            None => true,
+            Some(v) => v == x,
         }
     }
 
-    fn meet(&self, other: &Number<T>) -> Option<Number<T>> {
+    fn meet(&self, other: &Option<T>) -> Option<Option<T>> {
         match (*self, *other) {
-            (Number::Open, _) => Some(*other),
-            (Number::Fixed(_), Number::Open) => Some(*self),
-            (Number::Fixed(v), Number::Fixed(w)) => { if v.equals(w) { Some(*self) } else { None } }
+            (None, _) => Some(*other),
+            (Some(_), None) => Some(*self),
+            (Some(v), Some(w)) => { if v == w { Some(*self) } else { None } }
         }
     }
 }

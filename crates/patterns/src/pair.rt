@@ -35,12 +35,6 @@ impl<A: Pattern + Drop, B: Pattern + Drop> Pattern for Pair<A, B> {
     }
 
     fn meet(&self, other: &Self) -> Option<Self> {
-        let Some(a) = self.0.meet(&other.0) else {
-            return None;
-        };
-        let Some(b) = self.1.meet(&other.1) else {
-            return None;
-        };
-        Some(Pair(a, b))
+        Some(Pair(self.0.meet(&other.0)?, self.1.meet(&other.1)?))
     }
 }

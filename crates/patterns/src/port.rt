@@ -1,7 +1,9 @@
 ghost use Rattle.std.specs.Prelude.{◌≡◌, ◌≤◌, is_some, IfSome};
 ghost use Rattle.patterns.specs.Limits.{is_port};
 
-// A port of a switch, 1 to 16.
+// A port of a switch, 1 to 16. Made and read as std's `NonZeroU8` is: a caller gives an error of its own where there is none,
+// and asks for the number by name.
+// No type over both limits serves ports, switches and tags: their widths and refusals differ, and each reads plainer alone.
 #[derive(Clone, Copy, PartialEq, Eq)]
 pub struct Port {
     number: u8,

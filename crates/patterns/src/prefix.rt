@@ -13,15 +13,6 @@ pub struct Prefix {
     ghost ok: { (length ≤ 32) × (address < 2 ^ 32) × (address % 2 ^ (32 - length) ≡ 0) },
 }
 
-// Whether the first `length` bits of `a` and `x` are the same.
-fn starts(length: u8, a: u32, x: u32) -> bool
-    requires { length ≤ 32 }
-    ensures { result ≡ same_start length a x }
-{
-    let gap = 32 - u32::from(length);
-    u64::from(a) >> gap == u64::from(x) >> gap
-}
-
 // The shorter of two prefixes and then the other; where they are as long, in the order given.
 fn by_length(a: Prefix, b: Prefix) -> (Prefix, Prefix)
     ensures { result ≡ (if nat_le a.length b.length then (a, b) else (b, a)) }
@@ -30,6 +21,7 @@ fn by_length(a: Prefix, b: Prefix) -> (Prefix, Prefix)
 }
 
 impl Prefix {
+    // From its fields, as a port is made.
     pub fn new(address: u32, length: u8) -> Option<Prefix>
         ensures test { is_some result ≡ (is_length length && ends_in_zeros address length) }
         ensures value { IfSome result (λ p. (p.address ≡ address) × (p.length ≡ length)) }
@@ -51,6 +43,14 @@ impl Prefix {
     {
         self.length
     }
+
+    // Whether an address has the same first bits.
+    fn starts(self, x: u32) -> bool
+        ensures { result ≡ same_start self.length self.address x }
+    {
+        let gap = 32 - u32::from(self.length);
+        u64::from(self.address) >> gap == u64::from(x) >> gap
+    }
 }
 
 impl Pattern for Prefix {
@@ -70,16 +70,11 @@ impl Pattern for Prefix {
     ghost shared = { λ a b u v e. meet_shared (λ p. p.length) (λ p. p.address) a b a.ok.1 b.ok.1 e };
 
     fn admits(&self, x: &u32) -> bool {
-        let p = *self;
-        starts(p.length, p.address, *x)
+        self.starts(*x)
     }
 
     fn meet(&self, other: &Prefix) -> Option<Prefix> {
         let (short, long) = by_length(*self, *other);
-        if starts(short.length, short.address, long.address) {
-            Some(long)
-        } else {
-            None
-        }
+        short.starts(long.address).then_some(long)
     }
 }

@@ -5,13 +5,13 @@ use Rattle.std.proofs.lemmas.List.{append_assoc, append-nil}
 use Rattle.std.proofs.lemmas.Bool.{cases_lt, ltb-true}
 use Rattle.std.specs.List.{range_with_len, AllByRecursion, slice_get}
 use Rattle.std.specs.Option.{option_map}
-use Rattle.patterns.proofs.Lists.{slice_get-map, slice_get_front, slice_get_back, slice_get-range_with_len, slice_get_within, All-slice_get, All_any, All_from_slice_get, All-range_with_len}
+use Rattle.std.proofs.lemmas.Option.{slice_get-map, slice_get_within}
+use Rattle.patterns.proofs.Lists.{slice_get_front, slice_get_back, slice_get-range_with_len, All-slice_get, All_any, All_from_slice_get, All-range_with_len}
 use Rattle.rules.specs.declared.row.Row.{Row}
 use Rattle.topologies.proofs.Spots.{spots_flat}
 use Rattle.topologies.specs.Ports.{spot_at, spots, edge_ports_of}
 use Rattle.topologies.specs.declared.spot.PortUse.{PortUse}
 use Rattle.topologies.specs.declared.spot.Spot.{Spot}
-use Rattle.messages.proofs.Apart.{apart}
 use Rattle.messages.specs.Lines.{kind_of, tag_of}
 use Rattle.messages.specs.Sent.{Sent, barrier, switch_of}
 use Rattle.messages.specs.declared.line.Kind.{Kind}
@@ -127,10 +127,10 @@ module _ (n : ℕ) (ports : List PortUse) (rules : List Row) (old new : ℕ) whe
 
   adds_first : OnSwitches n rules (length rules) → (l : Kind) → (kind.Add ≡ l → ⊥) → (kind.Barrier ≡ l → ⊥) → Fenced (series n ports rules old new) kind.Add l
   adds_first on l a b =
-      let no_barrier = free_barriers kind.Add (apart kind.Barrier kind.Add tt) in
+      let no_barrier = free_barriers kind.Add (λ e. cc) in
       let later = All-append (Free kind.Add) flips collects
-      (free_flipping kind.Add (apart kind.Stamp kind.Add tt) (apart kind.Barrier kind.Add tt))
-      (free_collecting kind.Add (apart kind.Remove kind.Add tt) (apart kind.Barrier kind.Add tt)) in
+      (free_flipping kind.Add (λ e. cc) (λ e. cc))
+      (free_collecting kind.Add (λ e. cc) (λ e. cc)) in
       subst (λ xs. Fenced xs kind.Add l) (sym (append_assoc (adds n ports rules new) (barriers n) (flips ++ collects)))
       (fenced (adds n ports rules new) (flips ++ collects) n kind.Add (low_adds on)
       (All-append (Free kind.Add) (barriers n) (flips ++ collects) no_barrier later) l (free_installing l a b))
@@ -140,13 +140,13 @@ module _ (n : ℕ) (ports : List PortUse) (rules : List Row) (old new : ℕ) whe
       let front = installs ++ stamps n ports new in
       let parts : front ++ (barriers n ++ collects) ≡ series n ports rules old new =
       append_assoc installs (stamps n ports new) (barriers n ++ collects) ∙ ap (λ xs. installs ++ xs) (sym (append_assoc (stamps n ports new) (barriers n) collects)) in
-      let low = All-append (Below n kind.Stamp) installs (stamps n ports new) (low_free kind.Stamp installs (free_installing kind.Stamp (apart kind.Add kind.Stamp tt) (apart kind.Barrier kind.Stamp tt))) low_stamps in
+      let low = All-append (Below n kind.Stamp) installs (stamps n ports new) (low_free kind.Stamp installs (free_installing kind.Stamp (λ e. cc) (λ e. cc))) low_stamps in
       let early = All-append (Free kind.Remove) front (barriers n)
-      (All-append (Free kind.Remove) installs (stamps n ports new) (free_installing kind.Remove (apart kind.Add kind.Remove tt) (apart kind.Barrier kind.Remove tt)) (free_stamps kind.Remove (apart kind.Stamp kind.Remove tt)))
-      (free_barriers kind.Remove (apart kind.Barrier kind.Remove tt)) in
+      (All-append (Free kind.Remove) installs (stamps n ports new) (free_installing kind.Remove (λ e. cc) (λ e. cc)) (free_stamps kind.Remove (λ e. cc)))
+      (free_barriers kind.Remove (λ e. cc)) in
       subst (λ xs. Fenced xs kind.Stamp kind.Remove) parts
       (fenced front collects n kind.Stamp low
-      (All-append (Free kind.Stamp) (barriers n) collects (free_barriers kind.Stamp (apart kind.Barrier kind.Stamp tt)) (free_collecting kind.Stamp (apart kind.Remove kind.Stamp tt) (apart kind.Barrier kind.Stamp tt)))
+      (All-append (Free kind.Stamp) (barriers n) collects (free_barriers kind.Stamp (λ e. cc)) (free_collecting kind.Stamp (λ e. cc) (λ e. cc)))
       kind.Remove early)
 
   abbrev Ends : List Sent → Type 0
@@ -158,9 +158,9 @@ module _ (n : ℕ) (ports : List PortUse) (rules : List Row) (old new : ℕ) whe
       let parts : front ++ (barriers n ++ []) ≡ series n ports rules old new =
       append_assoc installs (flips ++ removes n old) (barriers n ++ [])
       ∙ ap (λ xs. installs ++ xs) (append_assoc flips (removes n old) (barriers n ++ []) ∙ ap (λ xs. flips ++ (removes n old ++ xs)) (append-nil (barriers n))) in
-      let low = All-append (Below n kind.Remove) installs (flips ++ removes n old) (low_free kind.Remove installs (free_installing kind.Remove (apart kind.Add kind.Remove tt) (apart kind.Barrier kind.Remove tt)))
-      (All-append (Below n kind.Remove) flips (removes n old) (low_free kind.Remove flips (free_flipping kind.Remove (apart kind.Stamp kind.Remove tt) (apart kind.Barrier kind.Remove tt))) low_removes) in
-      let rest = All-append (Free kind.Remove) (barriers n) [] (free_barriers kind.Remove (apart kind.Barrier kind.Remove tt)) tt in
+      let low = All-append (Below n kind.Remove) installs (flips ++ removes n old) (low_free kind.Remove installs (free_installing kind.Remove (λ e. cc) (λ e. cc)))
+      (All-append (Below n kind.Remove) flips (removes n old) (low_free kind.Remove flips (free_flipping kind.Remove (λ e. cc) (λ e. cc))) low_removes) in
+      let rest = All-append (Free kind.Remove) (barriers n) [] (free_barriers kind.Remove (λ e. cc)) tt in
       let long : length (front ++ (barriers n ++ [])) ≡ length front + n = length-append front (barriers n ++ []) ∙ ap (λ m. length front + m) (ap length (append-nil (barriers n)) ∙ length-barriers n) in
       subst Ends parts (λ i a st. followed front [] n kind.Remove low rest i a st (length (front ++ (barriers n ++ []))) (omega arith))
 
@@ -180,20 +180,20 @@ module _ (n : ℕ) (ports : List PortUse) (rules : List Row) (old new : ℕ) whe
 
   adds_tagged : Tagged (series n ports rules old new) kind.Add new
   adds_tagged =
-      tagged new kind.Add (apart kind.Barrier kind.Add tt) (made_carries new kind.Add (add_of n ports new) (λ r. refl) rules)
-      (free_carries new kind.Add (stamps n ports new) (free_stamps kind.Add (apart kind.Stamp kind.Add tt)))
-      (free_carries new kind.Add (removes n old) (free_removes kind.Add (apart kind.Remove kind.Add tt)))
+      tagged new kind.Add (λ e. cc) (made_carries new kind.Add (add_of n ports new) (λ r. refl) rules)
+      (free_carries new kind.Add (stamps n ports new) (free_stamps kind.Add (λ e. cc)))
+      (free_carries new kind.Add (removes n old) (free_removes kind.Add (λ e. cc)))
 
   stamps_tagged : Tagged (series n ports rules old new) kind.Stamp new
   stamps_tagged =
-      tagged new kind.Stamp (apart kind.Barrier kind.Stamp tt) (free_carries new kind.Stamp (adds n ports rules new) (free_adds kind.Stamp (apart kind.Add kind.Stamp tt)))
+      tagged new kind.Stamp (λ e. cc) (free_carries new kind.Stamp (adds n ports rules new) (free_adds kind.Stamp (λ e. cc)))
       (made_carries new kind.Stamp (stamp_of new) (λ s. refl) (edge_ports_of n ports))
-      (free_carries new kind.Stamp (removes n old) (free_removes kind.Stamp (apart kind.Remove kind.Stamp tt)))
+      (free_carries new kind.Stamp (removes n old) (free_removes kind.Stamp (λ e. cc)))
 
   removes_tagged : Tagged (series n ports rules old new) kind.Remove old
   removes_tagged =
-      tagged old kind.Remove (apart kind.Barrier kind.Remove tt) (free_carries old kind.Remove (adds n ports rules new) (free_adds kind.Remove (apart kind.Add kind.Remove tt)))
-      (free_carries old kind.Remove (stamps n ports new) (free_stamps kind.Remove (apart kind.Stamp kind.Remove tt)))
+      tagged old kind.Remove (λ e. cc) (free_carries old kind.Remove (adds n ports rules new) (free_adds kind.Remove (λ e. cc)))
+      (free_carries old kind.Remove (stamps n ports new) (free_stamps kind.Remove (λ e. cc)))
       (made_carries old kind.Remove (remove_of old) (λ s. refl) (range_with_len 0 n))
 
   pub in_order : OnSwitches n rules (length rules) → InOrder (series n ports rules old new) old new
@@ -201,8 +201,8 @@ module _ (n : ℕ) (ports : List PortUse) (rules : List Row) (old new : ℕ) whe
     adds_new = adds_tagged;
     stamps_new = stamps_tagged;
     removes_old = removes_tagged;
-    adds_then_stamps = adds_first on kind.Stamp (apart kind.Add kind.Stamp tt) (apart kind.Barrier kind.Stamp tt);
-    adds_then_removes = adds_first on kind.Remove (apart kind.Add kind.Remove tt) (apart kind.Barrier kind.Remove tt);
+    adds_then_stamps = adds_first on kind.Stamp (λ e. cc) (λ e. cc);
+    adds_then_removes = adds_first on kind.Remove (λ e. cc) (λ e. cc);
     stamps_then_removes = stamps_removes;
     removes_then_end = removes_end;
   }

@@ -1,7 +1,7 @@
 -- No plan is refused whose rules are all on switches of the topology.
 use Rattle.std.proofs.Common.{ℕ, List, length, sym, ap, ◌∙◌, arith}
 use Rattle.std.proofs.lemmas.Bool.{ltb-true}
-use Rattle.patterns.proofs.Lists.{slice_get_within}
+use Rattle.std.proofs.lemmas.Option.{slice_get_within}
 use Rattle.rules.specs.declared.row.Row.{Row}
 use Rattle.plans.specs.declared.fault.PlanFault.{PlanFault}
 use Rattle.plans.specs.Switches.{on_switch, OnSwitches, OffSwitches}

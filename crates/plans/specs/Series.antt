@@ -5,9 +5,8 @@ use Rattle.rules.specs.declared.row.Action.{Action}
 use Rattle.rules.specs.declared.row.Action.TheVariants.{Drop, Out}
 use Rattle.rules.specs.declared.row.Row.{Row}
 use Rattle.topologies.specs.declared.spot.PortUse.{PortUse}
-use Rattle.topologies.specs.declared.spot.PortKind.TheVariants as kind
 use Rattle.topologies.specs.declared.spot.Spot.{Spot}
-use Rattle.topologies.specs.Ports.{within, use_of, is_of, edge_ports_of}
+use Rattle.topologies.specs.Ports.{within, use_of, is_edge, edge_ports_of}
 use Rattle.messages.specs.Sent.{Sent, add, stamp, remove, barrier}
 
 -- Here n is the number of switches, and `ports` says what each port is used for.
@@ -15,7 +14,7 @@ use Rattle.messages.specs.Sent.{Sent, add, stamp, remove, barrier}
 -- An action of a switch sends to an edge port.
 abbrev pub to_edge_port : ℕ → List PortUse → ℕ → Action → Bool
 to_edge_port n ports switch Drop = false
-to_edge_port n ports switch (Out p) = let s : Spot = record { switch = switch; port = p } in within n s && is_of kind.Edge s (use_of ports s)
+to_edge_port n ports switch (Out p) = let s : Spot = record { switch = switch; port = p } in within n s && is_edge s (use_of ports s)
 
 -- An add per rule, in configuration order, marked strip exactly when its out port is an edge port.
 abbrev pub add_of : ℕ → List PortUse → ℕ → Row → Sent

@@ -1,5 +1,6 @@
-ghost use Rattle.std.specs.Prelude.{◌≡◌};
 ghost use Rattle.plans.specs.Faults.{plan_number};
+
+use refusals::refusal::Refusal;
 
 // The lowest place of a rule on a switch that the topology does not have, and that switch.
 #[derive(Clone, Copy, PartialEq, Eq)]
@@ -8,11 +9,10 @@ pub struct PlanFault {
     pub switch: u8,
 }
 
-impl PlanFault {
-    // The refusal's number in the table of refusals.
-    pub fn number(self) -> u8
-        ensures { result ≡ plan_number self }
-    {
+impl Refusal for PlanFault {
+    ghost number_of = { plan_number };
+
+    fn number(self) -> u8 {
         72
     }
 }

@@ -1,9 +1,7 @@
 -- What rule patterns admit, as laws on packets.
-use Rattle.std.proofs.Common.{◌≡◌, ℕ, ◌^◌, ◌<◌, ◌≤◌, Bool, true, false, ◌&&◌, eqb, MatchBool, sym, refl, ◌∙◌}
+use Rattle.std.proofs.Common.{◌≡◌, ℕ, ◌^◌, ◌<◌, ◌≤◌, Bool, true, false, ◌&&◌, eqb, MatchBool, sym, refl, ◌∙◌, Some, None, Option}
 use Rattle.std.proofs.lemmas.Bool.{true≢false}
 use Rattle.patterns.specs.Numbers.{admits_number, fixed_fits}
-use Rattle.patterns.specs.declared.number.Number.{Number}
-use Rattle.patterns.specs.declared.number.Number.TheVariants.{Open, Fixed}
 use Rattle.patterns.specs.declared.port.Port.{Port}
 use Rattle.rules.specs.declared.header.Header.{Header}
 use Rattle.rules.specs.Admits.{in_block, admits, Meeting}
@@ -30,16 +28,16 @@ covers q x =
     && (admits_number eqb q.1.1.1.0 x.1.1.1.0
     && admits_number eqb q.1.1.1.1 x.1.1.1.1)))
 
-port_admits : (n : Number Port) (x : Port) → admits_number same_port n x ≡ admits_number eqb (port_numbers n) x.number
-port_admits Open x = refl
-port_admits (Fixed p) x = refl
+port_admits : (n : Option Port) (x : Port) → admits_number same_port n x ≡ admits_number eqb (port_numbers n) x.number
+port_admits None x = refl
+port_admits (Some p) x = refl
 
 covers-admits : (q : RulePattern) (x : Subject) → covers q x ≡ admits (numbers_of q) x.0.number (header_of x)
 covers-admits q x = rw (port_admits q.0 x.0)
 
-pub port_sound : (n : Number Port) → fixed_fits (λ (p : Port). (1 ≤ p.number) × (p.number ≤ 16)) n
-port_sound Open = tt
-port_sound (Fixed p) = p.ok
+pub port_sound : (n : Option Port) → fixed_fits (λ (p : Port). (1 ≤ p.number) × (p.number ≤ 16)) n
+port_sound None = tt
+port_sound (Some p) = p.ok
 
 -- An answer on subjects is one on packets; A and B are that the patterns' own numbers fit.
 pub on_packets : (r : Bool) (a b : RulePattern) {A B : Type 0} → A → B → MatchBool r (A → B → (x : Subject) × (Fitting x × ((covers a x && covers b x) ≡ true))) ((x : Subject) → (covers a x && covers b x) ≡ false) → MatchBool r (Meeting (numbers_of a) (numbers_of b)) (Meeting (numbers_of a) (numbers_of b) → ⊥)

@@ -1,7 +1,6 @@
-ghost use Rattle.std.specs.Prelude.{◌≡◌};
 ghost use Rattle.rules.specs.Faults.{rule_number, tag_number};
 
-use patterns::number::Number;
+use refusals::refusal::Refusal;
 
 // Why a row makes no rule, with the numbers that are at fault.
 #[derive(Clone, Copy, PartialEq, Eq)]
@@ -10,15 +9,14 @@ pub enum RuleFault {
     InPort(u8),
     Length(u8),
     StrayBit { address: u32, length: u8 },
-    PortWithoutTransport { port: u16, protocol: Number<u8> },
+    PortWithoutTransport { port: u16, protocol: Option<u8> },
     OutPort(u8),
 }
 
-impl RuleFault {
-    // The refusal's number in the table of refusals.
-    pub fn number(self) -> u8
-        ensures { result ≡ rule_number self }
-    {
+impl Refusal for RuleFault {
+    ghost number_of = { rule_number };
+
+    fn number(self) -> u8 {
         match self {
             RuleFault::Switch(_) => 21,
             RuleFault::InPort(_) => 22,
@@ -36,11 +34,10 @@ pub struct TagFault {
     pub tag: u16,
 }
 
-impl TagFault {
-    // The refusal's number in the table of refusals.
-    pub fn number(self) -> u8
-        ensures { result ≡ tag_number self }
-    {
+impl Refusal for TagFault {
+    ghost number_of = { tag_number };
+
+    fn number(self) -> u8 {
         29
     }
 }

@@ -1,6 +1,5 @@
-use patterns::number::Number;
-
 // What a rule does with the packets that it admits; the out port is a plain number, which need not be a port.
+// Not an `Option`: to drop is an action, which rules are written for, and not the lack of one.
 #[derive(Clone, Copy, PartialEq, Eq)]
 pub enum Action {
     Drop,
@@ -14,14 +13,14 @@ pub struct Block {
     pub length: u8,
 }
 
-// The numbers of a rule pattern, which need not make one.
+// The numbers of a rule pattern, which need not make one. Where a number is `None`, all are admitted.
 #[derive(Clone, Copy, PartialEq, Eq)]
 pub struct PatternRow {
-    pub in_port: Number<u8>,
+    pub in_port: Option<u8>,
     pub source: Block,
     pub destination: Block,
-    pub protocol: Number<u8>,
-    pub destination_port: Number<u16>,
+    pub protocol: Option<u8>,
+    pub destination_port: Option<u16>,
 }
 
 // A rule as it lies in a list or a table: its plain numbers, which need not make a rule.

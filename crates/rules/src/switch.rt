@@ -1,6 +1,6 @@
 ghost use Rattle.std.specs.Prelude.{◌≡◌, ◌≤◌, is_some, IfSome, nat_le};
 
-// A switch of a site, 0 to 15.
+// A switch of a site, 0 to 15. Made and read as a port is.
 #[derive(Clone, Copy, PartialEq, Eq)]
 pub struct Switch {
     number: u8,

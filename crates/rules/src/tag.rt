@@ -1,8 +1,8 @@
-ghost use Rattle.std.specs.Prelude.{◌≡◌, ◌≤◌, Ok, Err};
+ghost use Rattle.std.specs.Prelude.{◌≡◌, ◌≤◌, MatchResult};
 
 use crate::fault::TagFault;
 
-// A version tag, 1 to 4094. It travels as a packet's VLAN number.
+// A version tag, 1 to 4094. It travels as a packet's VLAN number. Made by `new`, as a port and a switch are.
 #[derive(Clone, Copy, PartialEq, Eq)]
 pub struct Tag {
     number: u16,
@@ -11,7 +11,7 @@ pub struct Tag {
 
 impl Tag {
     pub fn new(number: u16) -> Result<Tag, TagFault>
-        ensures { elim result [ Ok t ↦ t.number ≡ number | Err e ↦ ((1 ≤ number) × (number ≤ 4094) → ⊥) × (e.tag ≡ number) ] }
+        ensures { MatchResult result (λ t. t.number ≡ number) (λ e. ¬ ((1 ≤ number) × (number ≤ 4094)) × (e.tag ≡ number)) }
     {
         if number < 1 || number > 4094 {
             return Err(TagFault { tag: number });

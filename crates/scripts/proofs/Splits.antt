@@ -1,38 +1,42 @@
 -- Where a text is cut.
-use Rattle.std.proofs.Common.{◌≡◌, ℕ, ◌+◌, ◌<◌, Bool, true, false, cond, eqb, List, [], ◌∷◌, ◌++◌, length, get_or, take, drop, Some, None, unwrap_or, sym, refl, ap, ◌∙◌}
-use Rattle.std.proofs.lemmas.List.{take-append-drop, drop_more}
-use Rattle.std.proofs.lemmas.Bool.{false≢true, eq-eqb, ne_eqb, cond-true, cond-false}
+use Rattle.std.proofs.Common.{◌≡◌, ℕ, ◌+◌, false, eqb, List, [], ◌∷◌, ◌++◌, length, take, drop, position, Some, unwrap_or, sym, refl, ap, ◌∙◌, append_assoc, arith, length-append}
+use Rattle.std.proofs.lemmas.List.{take_at, drop_at, length_push}
+use Rattle.std.proofs.lemmas.Bool.{false≢true, eq-eqb, ne_eqb, cond-false}
+use Rattle.std.proofs.lemmas.Bool.Decides.{nat_tests}
 use Rattle.std.specs.Option.{option_map}
-use Rattle.std.specs.List.{AllByRecursion}
+use Rattle.std.specs.List.{AllByRecursion, position_or_len}
 use Rattle.scripts.specs.Splits.{split, chomped, first_line}
 
 -- None of them is the mark.
 abbrev pub Lacks : ℕ → List ℕ → Type 0
 Lacks mark cs = AllByRecursion (λ c. c ≡ mark → ⊥) cs
 
+first_place : (mark : ℕ) (front rest : List ℕ) → Lacks mark front → position_or_len (λ c. eqb c mark) (front ++ (mark ∷ rest)) ≡ length front
+first_place mark [] rest h = rw (eq-eqb mark mark refl)
+first_place mark (c ∷ front) rest h = rw (ne_eqb c mark h.0, first_place mark front rest h.1) (omega arith)
+
+found : (mark : ℕ) (front rest : List ℕ) → Lacks mark front → position (λ c. eqb c mark) (front ++ (mark ∷ rest)) ≡ Some (length front)
+found mark front rest h =
+    let at = first_place mark front rest h in
+    grind (arith, nat_tests, length-append front (mark ∷ rest))
+
 pub split_found : (mark : ℕ) (front rest : List ℕ) → Lacks mark front → split mark (front ++ (mark ∷ rest)) ≡ Some (front, rest)
-split_found mark [] rest h = cond-true _ _ _ (eq-eqb mark mark refl)
-split_found mark (c ∷ front) rest h =
-    cond-false _ _ _ (ne_eqb c mark h.0) ∙ ap (option_map (λ p. (c ∷ p.0, p.1))) (split_found mark front rest h.1)
+split_found mark front rest h =
+    let text = front ++ (mark ∷ rest) in
+    let front_is = take_at front (mark ∷ rest) (length front) refl in
+    let rest_is : drop (length front + 1) text ≡ rest = ap (drop (length front + 1)) (sym (append_assoc front (mark ∷ []) rest)) ∙ drop_at (front ++ (mark ∷ [])) rest (length front + 1) (length_push front mark) in
+    ap (option_map (λ i. (take i text, drop (i + 1) text))) (found mark front rest h) ∙ rw (front_is, rest_is)
 
-pub split_place : (mark : ℕ) (cs : List ℕ) (i : ℕ) → i < length cs → Lacks mark (take i cs) → get_or cs i 0 ≡ mark → split mark cs ≡ Some (take i cs, drop (i + 1) cs)
-split_place mark cs i l h e =
-    let back = drop_more cs i 0 l ∙ ap (λ c. c ∷ drop (i + 1) cs) e in
-    ap (split mark) (sym (take-append-drop i cs) ∙ ap (λ xs. take i cs ++ xs) back) ∙ split_found mark (take i cs) (drop (i + 1) cs) h
+-- A carriage return at the end goes.
+pub chomped_push : (cs : List ℕ) → chomped (cs ++ (13 ∷ [])) ≡ cs
+chomped_push [] = refl
+chomped_push (c ∷ []) = refl
+chomped_push (c ∷ (d ∷ cs)) = ap (λ xs. c ∷ xs) (chomped_push (d ∷ cs))
 
-pub split_none : (mark : ℕ) (cs : List ℕ) → Lacks mark cs → split mark cs ≡ None
-split_none mark [] h = refl
-split_none mark (c ∷ cs) h =
-    cond-false _ _ _ (ne_eqb c mark h.0) ∙ ap (option_map (λ p. (c ∷ p.0, p.1))) (split_none mark cs h.1)
-
-cons_cond : (b : Bool) (c : ℕ) (xs ys : List ℕ) → c ∷ cond b xs ys ≡ cond b (c ∷ xs) (c ∷ ys)
-cons_cond true c xs ys = refl
-cons_cond false c xs ys = refl
-
-pub chomped_push : (cs : List ℕ) (last : ℕ) → chomped (cs ++ (last ∷ [])) ≡ cond (eqb last 13) cs (cs ++ (last ∷ []))
-chomped_push [] last = refl
-chomped_push (c ∷ []) last = cons_cond (eqb last 13) c [] (last ∷ [])
-chomped_push (c ∷ (d ∷ cs)) last = ap (λ xs. c ∷ xs) (chomped_push (d ∷ cs) last) ∙ cons_cond (eqb last 13) c _ _
+pub chomped_other : (cs : List ℕ) → ((front : List ℕ) → cs ≡ front ++ (13 ∷ []) → ⊥) → chomped cs ≡ cs
+chomped_other [] h = refl
+chomped_other (c ∷ []) h = cond-false _ _ _ (ne_eqb c 13 (λ e. h [] (ap (λ x. x ∷ []) e)))
+chomped_other (c ∷ (d ∷ cs)) h = ap (λ xs. c ∷ xs) (chomped_other (d ∷ cs) (λ front e. h (c ∷ front) (ap (λ xs. c ∷ xs) e)))
 
 pub chomped_none : (cs : List ℕ) → Lacks 13 cs → chomped cs ≡ cs
 chomped_none [] h = refl

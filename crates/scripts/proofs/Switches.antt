@@ -1,5 +1,5 @@
 -- Reading a switch digit by digit.
-use Rattle.std.proofs.Common.{◌≡◌, ℕ, ◌+◌, ◌-◌, ◌*◌, min, true, false, cond, eqb, List, [], ◌∷◌, length, Some, None, Option, refl, arith}
+use Rattle.std.proofs.Common.{◌≡◌, ℕ, ◌+◌, ◌*◌, ◌<◌, min, true, false, cond, eqb, List, [], ◌∷◌, length, Some, None, Option, refl, arith}
 use Rattle.std.proofs.lemmas.Bool.{false≢true}
 use Rattle.std.proofs.lemmas.Bool.Decides.{nat_tests}
 use Rattle.std.specs.Str.Parse.{digits_value_after}
@@ -19,14 +19,8 @@ same_capped : (m n : ℕ) (ds : List ℕ) → min 255 m ≡ min 255 n → min 25
 same_capped m n [] e = e
 same_capped m n (d ∷ ds) e = same_capped (m * 10 + digit_value d) (n * 10 + digit_value d) ds (omega arith)
 
-digit_is : (d : ℕ) → is_ascii_digit d ≡ true → digit_value d ≡ d - 48
-digit_is d h = grind (arith, nat_tests)
+is_digit : (d : ℕ) → digit_value d < 10 → is_ascii_digit d ≡ true
+is_digit d h = grind (arith, nat_tests)
 
-pub after_digit : (n m d : ℕ) (ds : List ℕ) → is_ascii_digit d ≡ true → m ≡ min 255 (n * 10 + (d - 48)) → after n (d ∷ ds) ≡ after m ds
-after_digit n m d ds h e =
-    let v = digit_is d h in
-    let same = same_capped (n * 10 + digit_value d) m ds (omega arith) in
-    rw (h, same)
-
-pub after_other : (n d : ℕ) (ds : List ℕ) → is_ascii_digit d ≡ false → after n (d ∷ ds) ≡ None
-after_other n d ds h = rw h
+pub after_digit : (n m d : ℕ) (ds : List ℕ) → digit_value d < 10 → m ≡ min 255 (n * 10 + digit_value d) → after n (d ∷ ds) ≡ after m ds
+after_digit n m d ds h e = rw (is_digit d h, same_capped (n * 10 + digit_value d) m ds (omega arith))

@@ -5,20 +5,19 @@ ghost use Rattle.scripts.specs.Texts.{entry_text};
 use crate::bytes::Bytes;
 use std::fmt;
 
-// A line of a script: the bytes of a message, and the switch that it goes to.
-#[derive(Clone, Copy)]
-pub struct Entry<'a> {
+// A line of a script: the bytes of a message, a `Vec` where they were read and a slice to be printed,
+// and the switch that it goes to.
+#[derive(Clone, Copy, Drop)]
+pub struct Entry<B> {
     pub switch: u8,
-    pub bytes: &'a [u8],
+    pub bytes: B,
 }
 
-impl fmt::Display for Entry<'_> {
+impl fmt::Display for Entry<&[u8]> {
     ghost output = { λ e. Some (entry_text e.switch e.bytes.now) };
 
     fn fmt<W: fmt::Write>(&self, f: &mut fmt::Formatter<W>) -> fmt::Result {
-        let switch = self.switch;
-        let bytes = Bytes(self.bytes);
-        write!(f, "{switch} {bytes}")
+        write!(f, "{} {}", self.switch, Bytes(self.bytes))
     }
 }
 

@@ -19,15 +19,13 @@ pub struct PduLine {
 impl fmt::Display for PduLine {
     ghost output = { λ l. Some (entry_text (switch_at (carried l.pdu)) (wire (carried l.pdu) l.xid)) };
 
+    #[tactic(auto, using(openflow::proofs::Written::written_front))]
     fn fmt<W: fmt::Write>(&self, f: &mut fmt::Formatter<W>) -> fmt::Result {
-        let PduLine { pdu, xid } = *self;
         let mut buffer = [0u8; LONGEST];
-        let Ok(length) = write(pdu, xid, &mut buffer) else {
-            unreachable()
-        };
+        let length = write(self.pdu, self.xid, &mut buffer).unwrap();
         let entry = Entry {
-            switch: pdu.switch().number(),
-            bytes: &buffer[0..length],
+            switch: self.pdu.switch().number(),
+            bytes: &buffer[..length],
         };
         write!(f, "{entry}")
     }

@@ -1,4 +1,4 @@
 pub mod Uses
 pub mod Links
-pub mod Counts
 pub mod Spots
+pub mod Counts

@@ -1,6 +1,7 @@
 -- Building a topology: which refusal, and what the ports are used for afterwards.
-use Rattle.std.specs.Prelude.{◌≡◌, ℕ, true, cond, ◌&&◌, List, Some, None, Option, nat_le, slice_set}
+use Rattle.std.specs.Prelude.{◌≡◌, ℕ, true, if◌then◌else◌, ◌&&◌, not, List, Option, nat_le, slice_set}
 use Rattle.std.specs.Option.{option_or}
+use Rattle.refusals.specs.Tests.{unless}
 use Rattle.topologies.specs.declared.fault.TopologyFault.{TopologyFault}
 use Rattle.topologies.specs.declared.fault.TopologyFault.TheVariants as fault
 use Rattle.topologies.specs.declared.spot.Spot.{Spot}
@@ -9,13 +10,13 @@ use Rattle.topologies.specs.declared.spot.PortUse.TheVariants.{Edge, Linked}
 use Rattle.topologies.specs.Ports.{same, within, index, use_of, is_unused}
 
 abbrev pub switches_fault : ℕ → Option TopologyFault
-switches_fault n = cond (nat_le 1 n && nat_le n 16) None (Some (fault.Switches n))
+switches_fault n = unless (nat_le 1 n && nat_le n 16) (fault.Switches n)
 
 abbrev pub port_fault : ℕ → Spot → Option TopologyFault
-port_fault n s = cond (within n s) None (Some (fault.NoPort s))
+port_fault n s = unless (within n s) (fault.NoPort s)
 
 abbrev pub used_fault : List PortUse → Spot → Option TopologyFault
-used_fault ports s = cond (is_unused (use_of ports s)) None (Some (fault.Used s))
+used_fault ports s = unless (is_unused (use_of ports s)) (fault.Used s)
 
 abbrev pub edge_fault : ℕ → List PortUse → Spot → Option TopologyFault
 edge_fault n ports s = option_or (port_fault n s) (used_fault ports s)
@@ -27,7 +28,7 @@ link_fault n ports a b =
     option_or (port_fault n b) (
     option_or (used_fault ports a) (
     option_or (used_fault ports b)
-    (cond (same a b) (Some (fault.Used b)) None))))
+    (unless (not (same a b)) (fault.Used b)))))
 
 abbrev pub with_edge : List PortUse → Spot → List PortUse
 with_edge ports s = slice_set ports (index s) Edge
@@ -37,10 +38,10 @@ with_link ports a b = slice_set (slice_set ports (index a) (Linked b)) (index b)
 
 -- What each port is used for once s is an edge port, or a and b are linked.
 abbrev pub edge_use : List PortUse → Spot → Spot → PortUse
-edge_use ports s q = cond (same q s) Edge (use_of ports q)
+edge_use ports s q = if same q s then Edge else use_of ports q
 
 abbrev pub link_use : List PortUse → Spot → Spot → Spot → PortUse
-link_use ports a b q = cond (same q a) (Linked b) (cond (same q b) (Linked a) (use_of ports q))
+link_use ports a b q = if same q a then Linked b else if same q b then Linked a else use_of ports q
 
 abbrev pub Uses : ℕ → List PortUse → (Spot → PortUse) → Type 0
 Uses n ports u = (q : Spot) → within n q ≡ true → use_of ports q ≡ u q

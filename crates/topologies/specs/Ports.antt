@@ -3,8 +3,6 @@ use Rattle.std.specs.Prelude.{◌≡◌, ℕ, ◌+◌, ◌-◌, ◌*◌, ◌/◌
 use Rattle.std.specs.List.{range_with_len, flat_map}
 use Rattle.topologies.specs.declared.spot.Spot.{Spot}
 use Rattle.patterns.specs.Limits.{is_port}
-use Rattle.topologies.specs.declared.spot.PortKind.{PortKind}
-use Rattle.topologies.specs.declared.spot.PortKind.TheVariants as kind
 use Rattle.topologies.specs.declared.spot.PortUse.{PortUse}
 use Rattle.topologies.specs.declared.spot.PortUse.TheVariants.{Unused, Edge, Linked}
 
@@ -53,22 +51,28 @@ spots n = flat_map (λ s. map (λ p. record { switch = s; port = p }) (range_wit
 abbrev pub comes_before : Spot → Spot → Bool
 comes_before a b = nat_lt a.switch b.switch || (a.switch == b.switch && nat_lt a.port b.port)
 
--- A port is counted as an edge port, or for the link of which it is the first end.
-abbrev pub is_of : PortKind → Spot → PortUse → Bool
-is_of kind.Edge s Unused = false
-is_of kind.Edge s Edge = true
-is_of kind.Edge s (Linked o) = false
-is_of kind.Link s Unused = false
-is_of kind.Link s Edge = false
-is_of kind.Link s (Linked o) = comes_before s o
+abbrev pub is_edge : Spot → PortUse → Bool
+is_edge s Unused = false
+is_edge s Edge = true
+is_edge s (Linked o) = false
 
--- The ports of one kind, by switch and port.
-abbrev pub ports_of : PortKind → ℕ → List PortUse → List Spot
-ports_of kind n ports = filter (λ s. is_of kind s (use_of ports s)) (spots n)
+-- The first of the two ends of a link.
+abbrev pub is_first_end : Spot → PortUse → Bool
+is_first_end s Unused = false
+is_first_end s Edge = false
+is_first_end s (Linked o) = comes_before s o
+
+-- Whatever a closure answers at a port and its use is what the test says.
+abbrev pub AnswersAs : (Spot → PortUse → Bool → Type 0) → (Spot → PortUse → Bool) → Type 0
+AnswersAs gives passes = (s : Spot) (u : PortUse) (r : Bool) → gives s u r → r ≡ passes s u
+
+-- The ports that pass a test, by switch and port.
+abbrev pub ports_that : (Spot → PortUse → Bool) → ℕ → List PortUse → List Spot
+ports_that passes n ports = filter (λ s. passes s (use_of ports s)) (spots n)
 
 abbrev pub edge_ports_of : ℕ → List PortUse → List Spot
-edge_ports_of = ports_of kind.Edge
+edge_ports_of = ports_that is_edge
 
 -- Each link, by its first end.
 abbrev pub links : ℕ → List PortUse → List Spot
-links = ports_of kind.Link
+links = ports_that is_first_end

@@ -1,7 +1,7 @@
-ghost use Rattle.std.specs.Prelude.{◌≡◌};
 ghost use Rattle.topologies.specs.Faults.{topology_number};
 
 use crate::spot::Spot;
+use refusals::refusal::Refusal;
 
 // Why a topology is not made or changed.
 #[derive(Clone, Copy, PartialEq, Eq)]
@@ -14,11 +14,10 @@ pub enum TopologyFault {
     Used(Spot),
 }
 
-impl TopologyFault {
-    // The refusal's number in the table of refusals.
-    pub fn number(self) -> u8
-        ensures { result ≡ topology_number self }
-    {
+impl Refusal for TopologyFault {
+    ghost number_of = { topology_number };
+
+    fn number(self) -> u8 {
         match self {
             TopologyFault::Switches(_) => 35,
             TopologyFault::NoPort(_) => 33,

@@ -1,5 +1,5 @@
-// A port of a switch, as plain numbers, which need not be one of a topology's.
-#[derive(Clone, Copy, PartialEq, Eq)]
+// A port of a switch, as plain numbers, which need not be one of a topology's. Spots are in order by switch, then port.
+#[derive(Clone, Copy, PartialEq, Eq, PartialOrd, Ord)]
 pub struct Spot {
     pub switch: u8,
     pub port: u8,
@@ -11,11 +11,4 @@ pub enum PortUse {
     Unused,
     Edge,
     Linked(Spot),
-}
-
-// What ports are counted by: edge ports, or links, each at the first of its two ends.
-#[derive(Clone, Copy, PartialEq, Eq)]
-pub enum PortKind {
-    Edge,
-    Link,
 }

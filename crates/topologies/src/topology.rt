@@ -1,4 +1,4 @@
-ghost use Rattle.std.specs.Prelude.{◌≡◌, ◌≤◌, length};
+ghost use Rattle.std.specs.Prelude.{◌≡◌, ◌≤◌};
 ghost use Rattle.topologies.specs.Ports.{Paired};
 
 use crate::spot::PortUse;
@@ -10,9 +10,9 @@ pub mod edges;
 #[derive(Drop)]
 pub struct Topology {
     switches: u8,
+    // 16 to a switch, by switch and port: fixed memory, nothing allocates, and the order is that in which ports are counted.
     ports: [PortUse; 256],
     ghost few: { (1 ≤ switches) × (switches ≤ 16) },
-    ghost all: { length ports ≡ 256 },
     ghost paired: { Paired switches ports },
 }
 

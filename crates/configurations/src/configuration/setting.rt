@@ -5,72 +5,15 @@ ghost use Rattle.rules.specs.declared.rule.Rule.{Rule};
 ghost use Rattle.configurations.specs.Settings.{MakeBefore, ClearBefore, ClearOf, Stands, Sound, Refused};
 
 use crate::configuration::Configuration;
+use crate::configuration::made::Made;
 use crate::fault::ConfigurationFault;
 use rules::row::Row;
 use rules::rule::Rule;
 
-// The most rules that a configuration has.
-const MOST_RULES: usize = 256;
-
-// Each row makes a rule.
-fn check_rows(rows: &[Row]) -> Result<(), ConfigurationFault>
-    requires { length rows.now ≤ 256 }
-    ensures { MatchResult result (λ _. MakeBefore rows.now (length rows.now)) (Refused rows.now) }
-{
-    for (place, row) in rows.iter().enumerate() {
-        if let Err(fault) = Rule::new(*row) {
-            return Err(ConfigurationFault::Row { place, fault });
-        }
-    }
-    Ok(())
-}
-
-// The rule at a place of a list whose rows all make one.
-fn rule_at(rows: &[Row], place: usize) -> Rule
-    requires within { place < length rows.now }
-    requires made { MakeBefore rows.now (length rows.now) }
-    ensures { Stands rows.now place result.row }
-{
-    Rule::new(rows[place]).unwrap()
-}
-
-// The rule at `later` clashes with none before it.
-fn check_earlier(rows: &[Row], later: usize) -> Result<(), ConfigurationFault>
-    requires few { length rows.now ≤ 256 }
-    requires made { MakeBefore rows.now (length rows.now) }
-    requires clear { ClearBefore rows.now later }
-    requires within { later < length rows.now }
-    ensures { MatchResult result (λ _. ClearOf rows.now later later) (Refused rows.now) }
-{
-    let rule = rule_at(rows, later);
-    for earlier in 0..later {
-        if rule_at(rows, earlier).clashes(rule) {
-            return Err(ConfigurationFault::Clash { later, earlier });
-        }
-    }
-    Ok(())
-}
-
-// No two rules clash.
-fn check_pairs(rows: &[Row]) -> Result<(), ConfigurationFault>
-    requires few { length rows.now ≤ 256 }
-    requires made { MakeBefore rows.now (length rows.now) }
-    ensures { MatchResult result (λ _. ClearBefore rows.now (length rows.now)) (Refused rows.now) }
-{
-    for later in 0..rows.len() {
-        check_earlier(rows, later)?;
-    }
-    Ok(())
-}
-
 fn check(rows: &[Row]) -> Result<(), ConfigurationFault>
     ensures { MatchResult result (λ _. Sound rows.now) (Refused rows.now) }
 {
-    if rows.len() > MOST_RULES {
-        return Err(ConfigurationFault::TooMany(rows.len()));
-    }
-    check_rows(rows)?;
-    check_pairs(rows)
+    Made::new(rows)?.check_pairs()
 }
 
 impl<'a> Configuration<'a> {
@@ -111,9 +54,6 @@ impl<'a> Configuration<'a> {
     pub fn rule(&self, place: usize) -> Option<Rule>
         ensures { option_map (λ (rule : Rule). rule.row) result ≡ slice_get self.now.rows.now place }
     {
-        if place >= self.len() {
-            return None;
-        }
-        Some(rule_at(self.rows, place))
+        Rule::new(*self.rows.get(place)?).ok()
     }
 }

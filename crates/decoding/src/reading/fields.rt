@@ -5,9 +5,10 @@ ghost use Rattle.openflow.specs.Fields.{HasFields};
 ghost use Rattle.decoding.specs.Offsets.{actions_at, fields_at};
 
 use crate::reading::{u16_at, u32_at};
-use crate::telling;
+use crate::telling::Addressed;
 use messages::message::Message;
-use openflow::flow_mod::{Actions, FlowMod, SET_VLAN};
+use openflow::action::{ActionType, Actions};
+use openflow::flow_mod::FlowMod;
 use rules::switch::Switch;
 
 // Where the fields lie.
@@ -42,10 +43,9 @@ fn actions(bytes: &[u8]) -> Actions
 {
     match bytes.len() {
         0..80 => Actions::Empty,
-        80..88 if u16_at(bytes, ACTIONS) == SET_VLAN => Actions::SetVlan(u16_at(
-            bytes,
-            ACTIONS + 4,
-        )),
+        80..88 if u16_at(bytes, ACTIONS) == u16::from(ActionType::SetVlan) => Actions::SetVlan(
+            u16_at(bytes, ACTIONS + 4),
+        ),
         80..88 => Actions::Output(u16_at(bytes, ACTIONS + 4)),
         _ => Actions::StripOutput(u16_at(bytes, ACTIONS + 12)),
     }
@@ -80,5 +80,9 @@ pub fn flow_mod(switch: Switch, bytes: &[u8]) -> Option<Message>
     if bytes.len() < 72 {
         return None;
     }
-    telling::message(parse(bytes), switch)
+    Addressed {
+        fields: parse(bytes),
+        switch,
+    }
+    .message()
 }

@@ -27,9 +27,7 @@ pub fn check_header(bytes: &[u8]) -> Result<Header, ReadFault>
     if bytes[0] != VERSION {
         return Err(ReadFault::Version(bytes[0]));
     }
-    let Some(kind) = Kind::of(bytes[1]) else {
-        return Err(ReadFault::Type(bytes[1]));
-    };
+    let kind = Kind::try_from(bytes[1])?;
     let length = u16_at(bytes, 2);
     if length < 8 || usize::from(length) > bytes.len() {
         return Err(ReadFault::Length(length));

@@ -2,10 +2,11 @@ ghost use Rattle.std.specs.Prelude.{◌≡◌, ◌+◌, ◌≤◌, length};
 ghost use Rattle.messages.specs.Sent.{sent};
 ghost use Rattle.openflow.specs.Carried.{carried, message};
 ghost use Rattle.openflow.specs.Frames.{contents, Grown};
-ghost use Rattle.openflow.specs.Kinds.{type_number};
+ghost use Rattle.openflow.specs.Kinds.{type_number, action_number};
 ghost use Rattle.openflow.specs.Layout.{be2, be4, header, match_part, command_part, act, actions_part, flow_mod, wire};
 
-use crate::flow_mod::{Actions, FlowMod, OUTPUT, SET_VLAN, STRIP_VLAN};
+use crate::action::{ActionType, Actions};
+use crate::flow_mod::FlowMod;
 use crate::frame::{Frame, LONGEST};
 use crate::kind::{Kind, VERSION};
 use crate::pdu::Pdu;
@@ -26,7 +27,7 @@ impl Actions {
 }
 
 impl Frame {
-    // One more part, after those put so far.
+    // One more part, after those put so far. Each put asks for room for its own part, which its caller knows.
     fn put(&mut self, part: &[u8])
         requires { self.old.length + length part.now ≤ 88 }
         ensures { Grown self.old part.now self.new }
@@ -37,6 +38,7 @@ impl Frame {
         self.length = end;
     }
 
+    // One for each width, since `to_be_bytes` belongs to no trait.
     fn put_u16(&mut self, x: u16)
         requires { self.old.length + 2 ≤ 88 }
         ensures { Grown self.old (be2 x) self.new }
@@ -59,7 +61,7 @@ impl Frame {
             bytes: [0; LONGEST],
             length: 0,
         };
-        frame.put(&[VERSION, kind.number()]);
+        frame.put(&[VERSION, u8::from(kind)]);
         frame.put_u16(length);
         frame.put_u32(xid);
         frame
@@ -96,11 +98,11 @@ impl Frame {
     }
 
     // An action of 8 bytes.
-    fn put_action(&mut self, kind: u16, value: u16)
+    fn put_action(&mut self, action: ActionType, value: u16)
         requires { self.old.length + 8 ≤ 88 }
-        ensures { Grown self.old (act kind value) self.new }
+        ensures { Grown self.old (act (action_number action) value) self.new }
     {
-        self.put_u16(kind);
+        self.put_u16(u16::from(action));
         self.put_u16(8);
         self.put_u16(value);
         self.put(&[0; 2]);
@@ -112,12 +114,12 @@ impl Frame {
     {
         match actions {
             Actions::Empty => {}
-            Actions::Output(port) => self.put_action(OUTPUT, port),
+            Actions::Output(port) => self.put_action(ActionType::Output, port),
             Actions::StripOutput(port) => {
-                self.put_action(STRIP_VLAN, 0);
-                self.put_action(OUTPUT, port);
+                self.put_action(ActionType::StripVlan, 0);
+                self.put_action(ActionType::Output, port);
             }
-            Actions::SetVlan(tag) => self.put_action(SET_VLAN, tag),
+            Actions::SetVlan(tag) => self.put_action(ActionType::SetVlan, tag),
         }
     }
 
@@ -142,7 +144,7 @@ impl Frame {
         }
     }
 
-    // A message or a reply, laid out.
+    // A message or a reply, laid out. Of two things, so no `From`; writing takes them apart too, as its callers hold them.
     pub fn of(pdu: Pdu, xid: u32) -> Frame
         ensures { contents result ≡ wire (carried pdu) xid }
     {

@@ -10,7 +10,7 @@ use configurations::configuration::Configuration;
 use rules::row::Row;
 use topologies::topology::Topology;
 
-// Each rule is on one of the switches.
+// Each rule is on one of the switches. A loop of its own, since the test and the refusal are other ones than a row's.
 fn check_switches(switches: u8, rows: &[Row]) -> Result<(), PlanFault>
     ensures { MatchResult result (λ _. OnSwitches switches rows.now (length rows.now)) (OffSwitches switches rows.now) }
 {

@@ -1,4 +1,4 @@
-ghost use Rattle.std.specs.Prelude.{◌≡◌};
+ghost use Rattle.std.specs.Prelude.{◌≡◌, ◌-◌, ◌<◌, ◌≤◌, ◌++◌};
 ghost use Rattle.std.specs.Option.{option_map};
 ghost use Rattle.std.specs.List.{range_with_len, slice_get};
 ghost use Rattle.rules.specs.declared.switch.Switch.{Switch};
@@ -25,13 +25,13 @@ fn leaves(topology: &Topology, rule: Rule) -> bool
     let row = rule.row();
     match row.action {
         Action::Drop => false,
-        Action::Out(port) => match topology.port_use(Spot {
-            switch: row.switch,
-            port,
-        }) {
-            Ok(PortUse::Edge) => true,
-            _ => false,
-        },
+        Action::Out(port) => {
+            let at = Spot {
+                switch: row.switch,
+                port,
+            };
+            matches!(topology.port_use(at), Ok(PortUse::Edge))
+        }
     }
 }
 
@@ -84,55 +84,67 @@ impl<'a> Plan<'a> {
         })
     }
 
+    // What stands at a place of two series, one after the other, the first of which is so long.
+    fn joined<
+        F: FnOnce(&Self, usize) -> Option<Message>,
+        G: FnOnce(&Self, usize) -> Option<Message>,
+    >(&self, place: usize, length: usize, first: F, second: G) -> Option<Message>
+        requires first { F.IsAlwaysCallable first }
+        requires second { G.IsAlwaysCallable second }
+        ensures front { place < length → F.post first self.entry place result }
+        ensures back { length ≤ place → G.post second self.entry (place - length) result }
+    {
+        if place < length {
+            first(self, place)
+        } else {
+            second(self, place - length)
+        }
+    }
+
     // What the stages post, each by place from 0.
 
     fn installing(&self, place: usize) -> Option<Message>
         ensures { option_map sent result ≡ slice_get (installing (switches self.now) (ports self.now) (rules self.now) (new_tag_of self.now)) place }
     {
-        let rules = self.configuration.len();
-        if place < rules {
-            self.add(place)
-        } else {
-            self.barrier(place - rules)
-        }
+        self.joined(place, self.configuration.len(), Self::add, Self::barrier)
     }
 
     fn flipping(&self, place: usize) -> Option<Message>
         ensures { option_map sent result ≡ slice_get (flipping (switches self.now) (ports self.now) (new_tag_of self.now)) place }
     {
-        let edges = self.topology.edge_count();
-        if place < edges {
-            self.stamp(place)
-        } else {
-            self.barrier(place - edges)
-        }
+        self.joined(
+            place,
+            self.topology.edge_count(),
+            Self::stamp,
+            Self::barrier,
+        )
     }
 
     fn collecting(&self, place: usize) -> Option<Message>
         ensures { option_map sent result ≡ slice_get (collecting (switches self.now) (old_tag_of self.now)) place }
     {
-        let switches = usize::from(self.topology.switches());
-        if place < switches {
-            self.remove(place)
-        } else {
-            self.barrier(place - switches)
-        }
+        self.joined(
+            place,
+            usize::from(self.topology.switches()),
+            Self::remove,
+            Self::barrier,
+        )
+    }
+
+    // What the stages after the installing post.
+    fn replacing(&self, place: usize) -> Option<Message>
+        ensures { option_map sent result ≡ slice_get (flipping (switches self.now) (ports self.now) (new_tag_of self.now) ++ collecting (switches self.now) (old_tag_of self.now)) place }
+    {
+        let flip = self.topology.edge_count() + usize::from(self.topology.switches());
+        self.joined(place, flip, Self::flipping, Self::collecting)
     }
 
     // The message at a place of the whole series, from 0.
     fn at(&self, place: usize) -> Option<Message>
         ensures { option_map sent result ≡ slice_get (planned self.now) place }
     {
-        let switches = usize::from(self.topology.switches());
-        let install = self.configuration.len() + switches;
-        let flip = self.topology.edge_count() + switches;
-        if place < install {
-            self.installing(place)
-        } else if place - install < flip {
-            self.flipping(place - install)
-        } else {
-            self.collecting(place - install - flip)
-        }
+        let install = self.configuration.len() + usize::from(self.topology.switches());
+        self.joined(place, install, Self::installing, Self::replacing)
     }
 
     // The message with an xid; the first has xid 1.
@@ -149,9 +161,6 @@ impl<'a> Plan<'a> {
     pub fn line(&self, xid: u32) -> Option<Line>
         ensures { result ≡ option_map (line_of xid) (with_xid (planned self.now) xid) }
     {
-        match self.message(xid) {
-            Some(message) => Some(Line::of(xid, message)),
-            None => None,
-        }
+        self.message(xid).map(|message| Line::of(xid, message))
     }
 }

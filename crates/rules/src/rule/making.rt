@@ -6,24 +6,25 @@ use crate::fault::RuleFault;
 use crate::row::{Action, Block, Row};
 use crate::rule::Rule;
 use crate::switch::Switch;
-use patterns::number::Number;
 use patterns::port::Port;
 use patterns::prefix::Prefix;
 
-fn check_switch(switch: u8) -> Result<(), RuleFault>
+// The protocols that have ports.
+const TCP: u8 = 6;
+
+const UDP: u8 = 17;
+
+fn check_switch(switch: u8) -> Result<Switch, RuleFault>
     ensures { result_err result ≡ switch_fault switch }
 {
-    if Switch::new(switch).is_none() {
-        return Err(RuleFault::Switch(switch));
-    }
-    Ok(())
+    Switch::new(switch).ok_or(RuleFault::Switch(switch))
 }
 
-fn check_in_port(port: Number<u8>) -> Result<(), RuleFault>
+fn check_in_port(port: Option<u8>) -> Result<(), RuleFault>
     ensures { result_err result ≡ in_port_fault port }
 {
     match port {
-        Number::Fixed(p) if Port::new(p).is_none() => Err(RuleFault::InPort(p)),
+        Some(p) if Port::new(p).is_none() => Err(RuleFault::InPort(p)),
         _ => Ok(()),
     }
 }
@@ -38,28 +39,25 @@ fn check_length(block: Block) -> Result<(), RuleFault>
     Ok(())
 }
 
-fn check_bits(block: Block) -> Result<(), RuleFault>
+fn check_bits(block: Block) -> Result<Prefix, RuleFault>
     requires { block.length ≤ 32 }
     ensures { result_err result ≡ bits_fault block }
 {
     let Block { address, length } = block;
-    if Prefix::new(address, length).is_none() {
-        return Err(RuleFault::StrayBit { address, length });
-    }
-    Ok(())
+    Prefix::new(address, length).ok_or(RuleFault::StrayBit { address, length })
 }
 
-fn check_transport(protocol: Number<u8>, port: Number<u16>) -> Result<(), RuleFault>
+fn check_transport(protocol: Option<u8>, port: Option<u16>) -> Result<(), RuleFault>
     ensures { result_err result ≡ transport_fault protocol port }
 {
     match (protocol, port) {
-        (_, Number::Open) => Ok(()),
-        (Number::Fixed(6), _) => Ok(()),
-        (Number::Fixed(17), _) => Ok(()),
-        (_, Number::Fixed(p)) => Err(RuleFault::PortWithoutTransport { port: p, protocol }),
+        (_, None) => Ok(()),
+        (Some(TCP | UDP), _) => Ok(()),
+        (_, Some(p)) => Err(RuleFault::PortWithoutTransport { port: p, protocol }),
     }
 }
 
+// Not one text with the in-port's: an action has other cases, and the refusal is another.
 fn check_out_port(action: Action) -> Result<(), RuleFault>
     ensures { result_err result ≡ out_port_fault action }
 {

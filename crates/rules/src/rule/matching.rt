@@ -6,7 +6,6 @@ ghost use Rattle.rules.specs.Written.{port_numbers, block_of, numbers_of};
 use crate::header::Header;
 use crate::row::Block;
 use crate::rule::Rule;
-use patterns::number::Number;
 use patterns::pair::Pair;
 use patterns::pattern::{Pattern, overlap};
 use patterns::port::Port;
@@ -14,18 +13,15 @@ use patterns::prefix::Prefix;
 
 // In-port, source, destination, protocol and destination port.
 pub type RulePattern = Pair<
-    Number<Port>,
-    Pair<Prefix, Pair<Prefix, Pair<Number<u8>, Number<u16>>>>,
+    Option<Port>,
+    Pair<Prefix, Pair<Prefix, Pair<Option<u8>, Option<u16>>>>,
 >;
 
-fn port_pattern(in_port: Number<u8>) -> Number<Port>
+fn port_pattern(in_port: Option<u8>) -> Option<Port>
     requires { is_some (in_port_fault in_port) ≡ false }
     ensures { port_numbers result ≡ in_port }
 {
-    match in_port {
-        Number::Open => Number::Open,
-        Number::Fixed(p) => Number::Fixed(Port::new(p).unwrap()),
-    }
+    in_port.and_then(Port::new)
 }
 
 fn prefix(block: Block) -> Prefix

@@ -1,5 +1,6 @@
 ghost use Rattle.std.specs.Prelude.{◌≡◌, ◌<◌, ◌≤◌, true, replicate, is_ok, IfOk, if◌then◌else◌, OnOk};
 ghost use Rattle.std.specs.Result.{result_err};
+ghost use Rattle.refusals.specs.Tests.{unless};
 ghost use Rattle.topologies.specs.declared.spot.PortUse.TheVariants.{Unused};
 ghost use Rattle.topologies.specs.Ports.{within, index, use_of, is_unused, links_back};
 ghost use Rattle.topologies.specs.Building.{switches_fault, port_fault, used_fault, edge_fault, link_fault, with_edge, with_link, edge_use, link_use, Uses};
@@ -9,14 +10,15 @@ use crate::spot::{PortUse, Spot};
 use crate::topology::Topology;
 use patterns::port::Port;
 
-// Where the use of a port lies.
-fn index_of(at: Spot) -> usize
-    requires switch { at.switch < 16 }
-    requires port { (1 ≤ at.port) × (at.port ≤ 16) }
-    ensures place { result ≡ index at }
-    ensures bound { result < 256 }
+// Each port is used once.
+fn check_unused(at: Spot, port_use: PortUse) -> Result<(), TopologyFault>
+    ensures refusal { result_err result ≡ unless (is_unused port_use) (TopologyFault.Used at) }
+    ensures unused { OnOk result (is_unused port_use ≡ true) }
 {
-    usize::from(at.switch) * 16 + (usize::from(at.port) - 1)
+    match port_use {
+        PortUse::Unused => Ok(()),
+        _ => Err(TopologyFault::Used(at)),
+    }
 }
 
 impl Topology {
@@ -34,24 +36,18 @@ impl Topology {
         })
     }
 
-    fn check_port(&self, at: Spot) -> Result<(), TopologyFault>
+    // Where the use of a port lies.
+    fn place(&self, at: Spot) -> Result<usize, TopologyFault>
         ensures refusal { result_err result ≡ port_fault self.now.switches at }
         ensures inside { OnOk result (within self.now.switches at ≡ true) }
+        ensures value { IfOk result (λ i. i ≡ index at) }
+        ensures bound { IfOk result (λ i. i < 256) }
     {
-        if at.switch >= self.switches || Port::new(at.port).is_none() {
-            return Err(TopologyFault::NoPort(at));
-        }
-        Ok(())
-    }
-
-    fn check_unused(&self, at: Spot) -> Result<(), TopologyFault>
-        requires { within self.now.switches at ≡ true }
-        ensures refusal { result_err result ≡ used_fault self.now.ports at }
-        ensures unused { OnOk result (is_unused (use_of self.now.ports at) ≡ true) }
-    {
-        match self.ports[index_of(at)] {
-            PortUse::Unused => Ok(()),
-            _ => Err(TopologyFault::Used(at)),
+        match Port::new(at.port) {
+            Some(port) if at.switch < self.switches => {
+                Ok(usize::from(at.switch) * 16 + usize::from(port.number() - 1))
+            }
+            _ => Err(TopologyFault::NoPort(at)),
         }
     }
 
@@ -61,9 +57,8 @@ impl Topology {
         ensures after { (self.new.switches ≡ self.old.switches) × (self.new.ports ≡ (if is_ok result then with_edge self.old.ports at else self.old.ports)) }
         ensures uses { OnOk result (Uses self.old.switches self.new.ports (edge_use self.old.ports at)) }
     {
-        self.check_port(at)?;
-        self.check_unused(at)?;
-        let i = index_of(at);
+        let i = self.place(at)?;
+        check_unused(at, self.ports[i])?;
         self.ports[i] = PortUse::Edge;
         Ok(())
     }
@@ -74,15 +69,13 @@ impl Topology {
         ensures after { (self.new.switches ≡ self.old.switches) × (self.new.ports ≡ (if is_ok result then with_link self.old.ports a b else self.old.ports)) }
         ensures uses { OnOk result (Uses self.old.switches self.new.ports (link_use self.old.ports a b)) }
     {
-        self.check_port(a)?;
-        self.check_port(b)?;
-        self.check_unused(a)?;
-        self.check_unused(b)?;
-        if a.switch == b.switch && a.port == b.port {
+        let i = self.place(a)?;
+        let j = self.place(b)?;
+        check_unused(a, self.ports[i])?;
+        check_unused(b, self.ports[j])?;
+        if a == b {
             return Err(TopologyFault::Used(b));
         }
-        let i = index_of(a);
-        let j = index_of(b);
         self.ports[i] = PortUse::Linked(b);
         self.ports[j] = PortUse::Linked(a);
         Ok(())
@@ -94,7 +87,7 @@ impl Topology {
         ensures value { IfOk result (λ u. u ≡ use_of self.now.ports at) }
         ensures back { IfOk result (λ u. links_back self.now.switches self.now.ports at u ≡ true) }
     {
-        self.check_port(at)?;
-        Ok(self.ports[index_of(at)])
+        let i = self.place(at)?;
+        Ok(self.ports[i])
     }
 }

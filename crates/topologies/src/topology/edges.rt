@@ -1,85 +1,83 @@
-ghost use Rattle.std.specs.Prelude.{◌≡◌, ◌*◌, ◌/◌, ◌<◌, ◌≤◌, true, length, IfSome, slice_index_or};
+ghost use Rattle.std.specs.Prelude.{◌≡◌, ◌*◌, ◌/◌, ◌%◌, ◌<◌, ◌≤◌, Bool, true, length, take, IfSome};
 ghost use Rattle.std.specs.List.{slice_get};
-ghost use Rattle.topologies.specs.declared.spot.PortUse.TheVariants.{Unused};
-ghost use Rattle.topologies.specs.Ports.{within, spot_at, is_of, ports_of, edge_ports_of, links};
+ghost use Rattle.topologies.specs.declared.spot.PortUse.{PortUse};
+ghost use Rattle.topologies.specs.declared.spot.Spot.{Spot};
+ghost use Rattle.topologies.specs.Ports.{within, spot_at, is_edge, is_first_end, AnswersAs, ports_that, edge_ports_of, links};
 
-use crate::spot::{PortKind, PortUse, Spot};
+use crate::spot::{PortUse, Spot};
 use crate::topology::Topology;
 
-// The port whose use lies at a place.
-fn spot_at(i: usize) -> Spot
-    requires { i < 256 }
-    ensures { result ≡ spot_at i }
+fn is_edge(_at: Spot, port_use: PortUse) -> bool
+    ensures { result ≡ is_edge _at port_use }
 {
-    Spot {
-        switch: (i / 16) as u8,
-        port: (i % 16 + 1) as u8,
-    }
+    port_use == PortUse::Edge
 }
 
-// Whether a port with this use is of a kind.
-fn is_of(kind: PortKind, at: Spot, port_use: PortUse) -> bool
-    ensures { result ≡ is_of kind at port_use }
+// Each link is counted at the first of its two ends.
+fn is_first_end(at: Spot, port_use: PortUse) -> bool
+    ensures { result ≡ is_first_end at port_use }
 {
-    match (kind, port_use) {
-        (PortKind::Edge, PortUse::Edge) => true,
-        (PortKind::Link, PortUse::Linked(o)) => {
-            at.switch < o.switch || (at.switch == o.switch && at.port < o.port)
-        }
-        _ => false,
+    matches!(port_use, PortUse::Linked(other) if at < other)
+}
+
+// The port whose use lies at a place.
+fn spot_at(place: usize) -> Spot
+    requires { place < 256 }
+    ensures { result ≡ spot_at place }
+{
+    Spot {
+        switch: (place / 16) as u8,
+        port: (place % 16 + 1) as u8,
     }
 }
 
 impl Topology {
-    // Whether the port whose use lies at a place is of a kind.
-    fn is_at(&self, kind: PortKind, i: usize) -> bool
-        requires { i < 256 }
-        ensures { result ≡ is_of kind (spot_at i) (slice_index_or self.now.ports i Unused) }
+    // What the ports are used for, by switch and port.
+    fn uses(&self) -> &[PortUse]
+        ensures { result.now ≡ take (self.now.switches * 16) self.now.ports }
     {
-        is_of(kind, spot_at(i), self.ports[i])
+        &self.ports[..usize::from(self.switches) * 16]
     }
 
-    // How many ports are of a kind.
-    fn count(&self, kind: PortKind) -> usize
-        ensures value { result ≡ length (ports_of kind self.now.switches self.now.ports) }
+    // How many ports pass a test.
+    fn count<F: Fn(Spot, PortUse) -> bool>(&self, test: F) -> usize
+        requires { F.IsAlwaysCallable test }
+        ensures value { (passes : Spot → PortUse → Bool) → AnswersAs (F.post test) passes → result ≡ length (ports_that passes self.now.switches self.now.ports) }
         ensures bound { result ≤ 256 }
     {
-        let mut count = 0;
-        for i in 0..usize::from(self.switches) * 16 {
-            if self.is_at(kind, i) {
-                count += 1;
-            }
-        }
-        count
+        self.uses()
+            .iter()
+            .enumerate()
+            .map(|(index, port_use)| (spot_at(index), *port_use))
+            .filter(|(at, port_use)| test(*at, *port_use))
+            .count()
     }
 
     pub fn edge_count(&self) -> usize
         ensures value { result ≡ length (edge_ports_of self.now.switches self.now.ports) }
         ensures bound { result ≤ 256 }
     {
-        self.count(PortKind::Edge)
+        self.count(is_edge)
     }
 
     pub fn link_count(&self) -> usize
         ensures { result ≡ length (links self.now.switches self.now.ports) }
     {
-        self.count(PortKind::Link)
+        self.count(is_first_end)
     }
 
-    // The edge port at a place of their order by switch and port, counted from 0.
+    // The edge port at a place of their order by switch and port, counted from 0. The chain begins as that of `count` does,
+    // since no function can hand out a chain with a closure in it.
     pub fn edge_port(&self, place: usize) -> Option<Spot>
         ensures value { result ≡ slice_get (edge_ports_of self.now.switches self.now.ports) place }
         ensures inside { IfSome result (λ s. within self.now.switches s ≡ true) }
     {
-        let mut left = place;
-        for i in 0..usize::from(self.switches) * 16 {
-            if self.is_at(PortKind::Edge, i) {
-                if left == 0 {
-                    return Some(spot_at(i));
-                }
-                left -= 1;
-            }
-        }
-        None
+        self.uses()
+            .iter()
+            .enumerate()
+            .map(|(index, port_use)| (spot_at(index), *port_use))
+            .filter(|(at, port_use)| is_edge(*at, *port_use))
+            .map(|(at, _)| at)
+            .nth(place)
     }
 }

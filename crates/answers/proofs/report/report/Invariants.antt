@@ -3,8 +3,8 @@ use Rattle.answers.specs.Reports.{Report}
 use Rattle.answers.proofs.report.report.Given as goal
 
 -- No line is shorter than what it ends with, and the text so far, with the report of what is left, is the report.
-abbrev pub invariant-loop-line : goal.invariant-loop-line
-invariant-loop-line l = (l.number + length l.left ≤ length l.script) × ((more : List ℕ) → Report (l.number + 1) l.left more → Report 1 l.script (string_bytes l.text ++ more))
-
-abbrev pub decreases-loop-line : goal.decreases-loop-line
-decreases-loop-line l = length l.left
+abbrev pub invariant-loop-number : goal.invariant-loop-number
+invariant-loop-number l =
+    let number = l.number-iterator.a.start in
+    let left = l.number-iterator.b.0.now in
+    (number + length left ≤ length l.script + 1) × ((more : List ℕ) → Report number left more → Report 1 l.script (string_bytes l.text ++ more))

@@ -1,12 +1,13 @@
 use Rattle.std.proofs.Common.{◌≡◌, ◌-◌, take, Bool, true, false, not, sym, refl, ap, ◌∙◌, rules}
 use Rattle.std.proofs.lemmas.Slice.Eq.{slice_eq-Decides}
 use Rattle.std.proofs.lemmas.Bool.{true≢false}
+use Rattle.std.proofs.lemmas.Option.{same_Some}
 use Rattle.openflow.specs.declared.pdu.Pdu.{Pdu}
 use Rattle.openflow.specs.Carried.{carried}
 use Rattle.openflow.specs.Layout.{wire}
 use Rattle.decoding.specs.Offsets.{at4}
 use Rattle.decoding.specs.Reading.{Fits}
-use Rattle.decoding.proofs.Answering.{reads, at1_front, at4_front, front_length}
+use Rattle.decoding.proofs.Answering.{reads, at4_front, front_length}
 use Rattle.decoding.proofs.RoundTrip.{round_trip}
 use Rattle.decoding.proofs.Told.{form, xid_told}
 use Rattle.decoding.proofs.reading.read.Goals as goal
@@ -20,19 +21,14 @@ like : (x r : Bool) → r ≡ not x → r ≡ false → x ≡ true
 like true r e f = refl
 like false r e f = absurd (true≢false (sym e ∙ f))
 
-pub candidate-requires : goal.candidate-requires
-candidate-requires c =
-    let header = c.in_ok-kind.ensures in
-    header.value.0 ∙ at1_front c.in_ok-kind.field-0.length c.args.bytes.now header.within.0
-
 pub returns-in_err-switch : goal.returns-in_err-switch
 returns-in_err-switch c = record { answer = search rules; law = round_trip }
 
 pub returns-in_err-kind : goal.returns-in_err-kind
 returns-in_err-kind c = record { answer = search rules; law = round_trip }
 
-pub returns-in_default : goal.returns-in_default
-returns-in_default c = record { answer = search rules; law = round_trip }
+pub returns-in_err-pdu-clause-law : goal.returns-in_err-pdu-clause-law
+returns-in_err-pdu-clause-law c = round_trip
 
 pub returns-then-ne : goal.returns-then-ne
 returns-then-ne c =
@@ -47,8 +43,8 @@ returns-then-ne c =
             refl,
             λ p xid w.
                 let found = c.candidate.ensures.told p xid w in
-                let was = c.in-Some.is in
-                let same : c.in-Some.pdu ≡ p = cc in
+                let was = c.in_ok-pdu.ensures.ok_part in
+                let same : c.in_ok-pdu.pdu ≡ p = same_Some _ _ (sym was ∙ found) in
                 let xid_is : c.in_ok-kind.field-0.xid ≡ xid =
                 header.value.2 ∙ at4_front n b header.within.0 ∙ ap (λ l. at4 l 4) (sym w.is) ∙ xid_told xid w.xid_fits (form p) in
                 let equal =
@@ -61,7 +57,7 @@ returns-then-ne c =
 
 pub returns : goal.returns
 returns c =
-    let fits : Fits (carried c.in-Some.pdu) = search rules in
+    let fits : Fits (carried c.in_ok-pdu.pdu) = search rules in
     let header = c.in_ok-kind.ensures in
     let n = c.in_ok-kind.field-0.length in
     let b = c.args.bytes.now in
@@ -73,7 +69,7 @@ returns c =
             record {
               fits = fits;
               xid_fits = search rules;
-              to = c.in-Some.ensures.to;
+              to = rw c.in_ok-pdu.ensures.ok_part at c.candidate.ensures.to;
               is = sym (c.as_slice.ensures ∙ c.of-frame.ensures) ∙ compared.0 (like _ c.ne.result c.ne.ensures c.if-ne.false);
             },
             front_length n b header.within.1,

@@ -1,21 +1,15 @@
-use Rattle.std.proofs.Common.{sym, ap, ◌∙◌}
-use Rattle.std.proofs.lemmas.List.{nil_from_length}
-use Rattle.std.proofs.lemmas.Bool.{eq-eqb, ne_eqb, cond-true, cond-false}
+use Rattle.std.proofs.Common.{◌≡◌, ℕ, List, [], ◌∷◌, ◌++◌, Some, None, Option, Bor, unwrap_or, sym, ap, ◌∙◌, rules}
+use Rattle.std.proofs.lemmas.Slice.Eq.{strip_suffix_is}
+use Rattle.std.specs.Option.{MatchOption}
 use Rattle.scripts.specs.Splits.{chomped}
-use Rattle.scripts.proofs.Splits.{chomped_push}
+use Rattle.scripts.proofs.Splits.{chomped_push, chomped_other}
 use Rattle.scripts.proofs.lines.chomp.Goals as goal
 
-pub returns-in_default : goal.returns-in_default
-returns-in_default c =
-    let empty = nil_from_length c.args.line.now c.in_default.ensures.cases in
-    empty ∙ ap chomped (sym empty)
+chomped_is : (line : Bor (List ℕ)) (r : Option (Bor (List ℕ))) → MatchOption r ((front : List ℕ) → line.now ≡ front ++ (13 ∷ []) → ⊥) (λ x. line.now ≡ x.now ++ (13 ∷ [])) → (unwrap_or r line).now ≡ chomped line.now
+chomped_is line None h = sym (chomped_other line.now h)
+chomped_is line (Some x) h = sym (ap chomped h ∙ chomped_push x.now)
 
-pub returns-then-last-eq13 : goal.returns-then-last-eq13
-returns-then-last-eq13 c =
-    let whole = c.in-Some.ensures.cases.0 in
-    sym (ap chomped whole ∙ chomped_push c.in-Some.front.now c.in-Some.last.now ∙ cond-true _ _ _ (eq-eqb _ _ c.if-last-eq13.true))
-
-pub returns-else-last-eq13 : goal.returns-else-last-eq13
-returns-else-last-eq13 c =
-    let whole = c.in-Some.ensures.cases.0 in
-    whole ∙ sym (ap chomped whole ∙ chomped_push c.in-Some.front.now c.in-Some.last.now ∙ cond-false _ c.in-Some.front.now _ (ne_eqb _ _ c.if-last-eq13.false))
+pub returns : goal.returns
+returns c =
+    let cases = strip_suffix_is (search rules) c.args.line.now (13 ∷ []) c.strip_suffix.result c.strip_suffix.ensures.cases in
+    ap (λ (x : Bor (List ℕ)). x.now) c.unwrap_or.ensures ∙ chomped_is c.args.line c.strip_suffix.result cases

@@ -1,11 +1,12 @@
-use Rattle.std.proofs.Common.{◌≤◌, length, vec_items, ◌∙◌, rules}
-use Rattle.std.proofs.lemmas.List.{take_rest}
-use Rattle.scripts.proofs.Pairs.{together_more}
+use Rattle.std.proofs.Common.{[], sym, ap, ◌∙◌, arith}
+use Rattle.std.proofs.lemmas.Bool.Decides.{nat_tests}
+use Rattle.scripts.proofs.Pairs.{none_odd, together, together_all}
 use Rattle.scripts.proofs.parse.pairs.Goals as goal
 
-pub loop-left-preserved : goal.loop-left-preserved
-loop-left-preserved c =
-    let left = c.loop-left.left.now in
-    let two : 2 ≤ length left = search rules in
-    let more = together_more (vec_items c.loop-left.bytes) left _ _ c.in-Some.byte two c.in-Some.ensures c.in_ok-push.ensures.items (take_rest left 2) in
-    (more ∙ c.loop-left.invariant.0, search rules)
+pub returns-then-not-is_empty-clause-made : goal.returns-then-not-is_empty-clause-made
+returns-then-not-is_empty-clause-made c = sym (none_odd c.args.text.now (grind (arith, nat_tests)))
+
+pub loop-high-init : goal.loop-high-init
+loop-high-init c =
+    let all = together_all c.args.text.now (grind (arith, nat_tests)) in
+    ap (λ bytes. together bytes c.as_chunks.result.0.now) c.new-bytes.ensures.items ∙ ap (together []) c.as_chunks.ensures.front ∙ all

@@ -7,4 +7,4 @@ pub returns : goal.returns
 unfolding header
 returns c =
     let g = then c.put.ensures (then c.put_u16.ensures c.put_u32.ensures) in
-    (g.held ∙ ap (λ k. header k c.args.length c.args.xid) c.number.ensures, g.len)
+    (g.held ∙ ap (λ k. header k c.args.length c.args.xid) c.from.ensures, g.len)

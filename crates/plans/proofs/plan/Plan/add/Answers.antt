@@ -10,12 +10,6 @@ use Rattle.plans.specs.Series.{to_edge_port, add_of}
 use Rattle.plans.specs.Versions.{version_tag, other}
 use Rattle.plans.proofs.plan.Plan.add.Goals as goal
 
-pub returns-in_err-rule : goal.returns-in_err-rule
-returns-in_err-rule c =
-    let p = c.args.self.now in
-    let t = p.topology.now in
-    rw c.from_residual.ensures (mapped_at (add_of t.switches t.ports (version_tag (other p.in_force))) p.configuration.rows.now c.args.place _ c.in_err-rule.ensures)
-
 -- A drop has no out port, so the mark that is left off was not set.
 mark_stays : (n : ℕ) (ports : List PortUse) (switch : ℕ) (a : Action) → (goes_out a && to_edge_port n ports switch a) ≡ to_edge_port n ports switch a
 mark_stays n ports switch Drop = refl

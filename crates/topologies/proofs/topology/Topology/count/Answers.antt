@@ -1,26 +1,22 @@
-use Rattle.std.proofs.Common.{◌≡◌, ◌*◌, true, false, map, length, sym, ap, ◌∙◌, arith}
-use Rattle.std.specs.List.{range_with_len}
-use Rattle.topologies.specs.Ports.{spot_at}
-use Rattle.topologies.proofs.Counts.{count_more, kept}
-use Rattle.topologies.proofs.Spots.{spots_flat}
+use Rattle.std.proofs.Common.{◌≡◌, ◌*◌, length, take, arith, rules, tests}
+use Rattle.std.proofs.lemmas.Iterator.{YieldsList-from_slice, YieldsList-from_map}
+use Rattle.std.proofs.lemmas.Iterator.Consumers.{count_from_yields_List, YieldsList-from_filter, YieldsList-from_enumerate, YieldsList-at}
+use Rattle.topologies.specs.Ports.{spot_at, ports_that}
+use Rattle.topologies.proofs.Counts.{kept, length-kept}
 use Rattle.topologies.proofs.topology.Topology.count.Goals as goal
-use Rattle.topologies.proofs.topology.Topology.count.Goals.{then-is_at, else-is_at}
 
-pub loop-i-preserved : goal.loop-i-preserved
-loop-i-preserved c =
-    let inv = c.loop-i.invariant in
-    let more = count_more c.args.kind c.args.self.now.ports c.loop-i.i c.loop-i.count in
-    elim c.if-is_at.branch [
-      | then-is_at w ↦ (w.count-is ∙ more true (sym c.is_at.ensures ∙ w.if-is_at.true) inv.0, omega (arith, w.count-is))
-      | else-is_at w ↦ (w.count-is ∙ more false (sym c.is_at.ensures ∙ w.if-is_at.false) inv.0, omega (arith, w.count-is))
-    ]
-
-pub returns : goal.returns
-returns c =
+pub returns-clause-value : goal.returns-clause-value
+returns-clause-value g c passes answers =
     let t = c.args.self.now in
-    let all : c.loop-i.i ≡ t.switches * 16 = omega arith in
-    let listed = kept c.args.kind t.ports in
-    record {
-      value = c.loop-i.invariant.0 ∙ ap (λ i. length (listed (map spot_at (range_with_len 0 i)))) all ∙ ap (λ xs. length (listed xs)) (sym (spots_flat t.switches));
-      bound = let few = t.few in omega (arith, c.loop-i.invariant.1);
-    }
+    let few = t.few in
+    let long : length t.ports ≡ 256 = search rules in
+    let counted : c.count.result ≡ length (kept passes t.switches t.ports) =
+    count_from_yields_List c.filter.result _ c.count.ensures.ran
+    (YieldsList-from_filter _ (λ p. passes p.0 p.1)
+    (YieldsList-at c.filter.ensures.source
+    (YieldsList-from_map _ (λ p. (spot_at p.0, p.1))
+    (YieldsList-at c.map.ensures.source (YieldsList-from_enumerate (YieldsList-at c.enumerate.ensures.source (YieldsList-from_slice (take (t.switches * 16) t.ports) (cc))) (cc)))
+    c.map.ensures.closure (λ x r q k. search (rules, tests))))
+    c.filter.ensures.closure (λ x r q k. search (rules, tests))) in
+    let all : length (kept passes t.switches t.ports) ≡ length (ports_that passes t.switches t.ports) = length-kept passes t.switches t.ports (omega arith) in
+    search rules

@@ -1,11 +1,9 @@
-use Rattle.std.proofs.Common.{refl, arith}
+use Rattle.std.proofs.lemmas.List.{get_or-replicate}
 use Rattle.topologies.specs.Ports.{index}
-use Rattle.topologies.proofs.Uses.{use_fresh}
+use Rattle.topologies.proofs.Uses.{index_below}
+use Rattle.topologies.specs.declared.spot.PortUse.TheVariants.{Unused}
+use Rattle.std.proofs.Common.{arith}
 use Rattle.topologies.proofs.topology.Topology.new.Goals as goal
 
-pub invariant_of-result : goal.invariant_of-result
-invariant_of-result c = record {
-  few = (omega arith, omega arith);
-  all = refl;
-  paired = λ s w. rw (use_fresh 256 (index s));
-}
+pub invariant_of-result-clause-paired : goal.invariant_of-result-clause-paired
+invariant_of-result-clause-paired c s w = rw (get_or-replicate 256 (index s) Unused Unused (index_below _ s (omega arith) w))

@@ -1,5 +1,0 @@
-use Rattle.configurations.specs.Settings.{MakeBefore}
-use Rattle.configurations.proofs.configuration.setting.check_rows.Given as goal
-
-abbrev pub invariant-loop-place : goal.invariant-loop-place
-invariant-loop-place l = MakeBefore l.rows l.place
