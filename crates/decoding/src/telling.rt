@@ -26,7 +26,7 @@ use rules::tag::Tag;
 fn number<T: Drop>(any: bool, value: T) -> Option<T>
     ensures { result ≡ (if any then None else Some value) }
 {
-    if any { None } else { Some(value) }
+    (!any).then_some(value)
 }
 
 // A port is below 256; of any other number, some port.

@@ -73,7 +73,7 @@ fn add_actions(action: Action, strip: bool) -> Actions
     }
 }
 
-// Made by name, since `From<Tag>` would not say which.
+// Made by name, side by side: a stamp is of two things, and `From<Tag>` would not say that it makes a remove.
 impl FlowMod {
     pub fn add(add: Add) -> FlowMod
         ensures { result ≡ add_fields add.tag.number add.rule.row add.strip }

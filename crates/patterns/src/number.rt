@@ -31,7 +31,7 @@ impl<T: Field + Drop> Pattern for Option<T> {
         match (*self, *other) {
             (None, _) => Some(*other),
             (Some(_), None) => Some(*self),
-            (Some(v), Some(w)) => { if v == w { Some(*self) } else { None } }
+            (Some(v), Some(w)) => (v == w).then_some(*self),
         }
     }
 }

@@ -5,7 +5,7 @@ ghost use Rattle.std.proofs.Common.{rules};
 
 use crate::pattern::Pattern;
 
-// A pair of patterns admits the pairs whose halves they admit.
+// A pair of patterns admits the pairs whose halves they admit. Its name tells the pattern from the pair of subjects.
 #[derive(Clone, Copy, Drop, PartialEq, Eq)]
 pub struct Pair<A, B>(pub A, pub B);
 

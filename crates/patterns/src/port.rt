@@ -2,8 +2,8 @@ ghost use Rattle.std.specs.Prelude.{◌≡◌, ◌≤◌, is_some, IfSome};
 ghost use Rattle.patterns.specs.Limits.{is_port};
 
 // A port of a switch, 1 to 16. Made and read as std's `NonZeroU8` is: a caller gives an error of its own where there is none,
-// and asks for the number by name.
-// No type over both limits serves ports, switches and tags: their widths and refusals differ, and each reads plainer alone.
+// and asks for the number by name. The literal owes its limits, so `new` tests first.
+// No one type over limits serves ports, switches and tags: a tag's width and refusal are others, and each reads plainer alone.
 #[derive(Clone, Copy, PartialEq, Eq)]
 pub struct Port {
     number: u8,

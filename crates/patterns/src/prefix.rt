@@ -21,7 +21,7 @@ fn by_length(a: Prefix, b: Prefix) -> (Prefix, Prefix)
 }
 
 impl Prefix {
-    // From its fields, as a port is made.
+    // From its fields, as a port is made: the struct of the two numbers, `Block`, belongs to the rows of rules.
     pub fn new(address: u32, length: u8) -> Option<Prefix>
         ensures test { is_some result ≡ (is_length length && ends_in_zeros address length) }
         ensures value { IfSome result (λ p. (p.address ≡ address) × (p.length ≡ length)) }

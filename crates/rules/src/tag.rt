@@ -2,7 +2,8 @@ ghost use Rattle.std.specs.Prelude.{◌≡◌, ◌≤◌, MatchResult};
 
 use crate::fault::TagFault;
 
-// A version tag, 1 to 4094. It travels as a packet's VLAN number. Made by `new`, as a port and a switch are.
+// A version tag, 1 to 4094. It travels as a packet's VLAN number. Made by `new`, which refuses with a
+// number of the table, as that of a rule does.
 #[derive(Clone, Copy, PartialEq, Eq)]
 pub struct Tag {
     number: u16,

@@ -21,6 +21,7 @@ impl fmt::Display for PduLine {
 
     #[tactic(auto, using(openflow::proofs::Written::written_front))]
     fn fmt<W: fmt::Write>(&self, f: &mut fmt::Formatter<W>) -> fmt::Result {
+        // Through `write`, as any client of the wire; 88 bytes on the stack, since nothing here allocates.
         let mut buffer = [0u8; LONGEST];
         let length = write(self.pdu, self.xid, &mut buffer).unwrap();
         let entry = Entry {

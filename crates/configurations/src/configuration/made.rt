@@ -16,7 +16,7 @@ pub struct Made<'a> {
     ghost made: { MakeBefore rows.now (length rows.now) },
 }
 
-// Each row makes a rule.
+// Each row makes a rule. A loop of its own, since the test and the refusal are other ones than a plan's.
 fn check_rows(rows: &[Row]) -> Result<(), ConfigurationFault>
     requires { length rows.now ≤ 256 }
     ensures { MatchResult result (λ _. MakeBefore rows.now (length rows.now)) (Refused rows.now) }

@@ -51,7 +51,7 @@ fn actions(bytes: &[u8]) -> Actions
     }
 }
 
-// The fields that stand in the bytes, whatever else stands there.
+// The fields that stand in the bytes, whatever else stands there. `flow_mod` tests the length for this and for the actions.
 fn parse(bytes: &[u8]) -> FlowMod
     requires { 72 ≤ length bytes.now }
     ensures { result ≡ fields_at bytes.now }

@@ -144,7 +144,7 @@ impl Frame {
         }
     }
 
-    // A message or a reply, laid out. Of two things, so no `From`; writing takes them apart too, as its callers hold them.
+    // A message or a reply, laid out. Of two things, so no `From`; they are two arguments of `write`, and so below it.
     pub fn of(pdu: Pdu, xid: u32) -> Frame
         ensures { contents result ≡ wire (carried pdu) xid }
     {
