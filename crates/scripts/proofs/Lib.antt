@@ -1,4 +1,5 @@
 pub mod Splits
 pub mod Switches
 pub mod Pairs
+pub mod Spelled
 pub mod Printed

@@ -1,7 +1,15 @@
-ghost use Rattle.std.specs.Prelude.{Some};
-ghost use Rattle.scripts.specs.Texts.{bytes_text};
+ghost use Rattle.std.specs.Prelude.{◌≡◌, ◌<◌, Some};
+ghost use Rattle.scripts.specs.Texts.{digit_char, bytes_text};
 
 use std::fmt;
+
+// Digit by digit, since `{:02x}` pads as numbers of any length are padded, which takes longer.
+fn digit(value: u8) -> char
+    requires { value < 16 }
+    ensures { result ≡ digit_char value }
+{
+    char::from_digit(u32::from(value), 16).unwrap()
+}
 
 // The bytes of a message to be printed, with a dash where there are none.
 #[derive(Clone, Copy)]
@@ -15,7 +23,9 @@ impl fmt::Display for Bytes<'_> {
             return f.write_str("-");
         }
         for &byte in self.0 {
-            write!(f, "{byte:02x}")?;
+            let high = digit(byte / 16);
+            let low = digit(byte % 16);
+            write!(f, "{high}{low}")?;
         }
         Ok(())
     }
