@@ -1,8 +1,7 @@
 -- The ports that pass a test, found by going through their uses one place at a time.
-use Rattle.std.proofs.Common.{◌≡◌, ℕ, ◌+◌, ◌*◌, ◌≤◌, Bool, List, [], ◌∷◌, map, length, get_or, take, filter, refl, sym, ap, ◌∙◌, arith, length-take-le, zero-add}
-use Rattle.std.proofs.lemmas.List.{get_or-map, get_or-take, length-map}
-use Rattle.std.proofs.lemmas.List.FromFn.{fill_by_all, length-enumerate_from, get_or-enumerate_from}
-use Rattle.std.specs.List.{range_with_len, enumerate_from}
+use Rattle.std.proofs.Common.{◌≡◌, ℕ, suc, ◌+◌, ◌-◌, ◌*◌, ◌<◌, ◌≤◌, Bool, cond, List, [], ◌∷◌, map, length, get_or, take, filter, sym, ap, ◌∙◌, arith, length-take-le}
+use Rattle.std.proofs.lemmas.List.{get_or-take}
+use Rattle.std.specs.List.{range_with_len}
 use Rattle.topologies.specs.declared.spot.PortUse.{PortUse}
 use Rattle.topologies.specs.declared.spot.PortUse.TheVariants.{Unused}
 use Rattle.topologies.specs.declared.spot.Spot.{Spot}
@@ -13,38 +12,31 @@ index_spot : (i : ℕ) → index (spot_at i) ≡ i
 index_spot i = omega arith
 
 module _ (passes : Spot → PortUse → Bool) (n : ℕ) (ports : List PortUse) where
-  -- Each port with its use, in the order in which the uses lie, and those of them that pass.
-  abbrev pub listed : List (Spot × PortUse)
-  listed = map (λ p. (spot_at p.0, p.1)) (enumerate_from 0 (take (n * 16) ports))
+  -- Those of m ports from place i on.
+  abbrev kept : ℕ → ℕ → List Spot
+  kept i m = filter (λ s. passes s (use_of ports s)) (map spot_at (range_with_len i m))
 
-  abbrev pub kept : List (Spot × PortUse)
-  kept = filter (λ p. passes p.0 p.1) listed
+  abbrev pub from : ℕ → List Spot
+  from i = kept i (n * 16 - i)
 
-  abbrev with_use : ℕ → Spot × PortUse
-  with_use i = (spot_at i, get_or ports i Unused)
+  pub from_first : from 0 ≡ ports_that passes n ports
+  from_first =
+      let all : n * 16 - 0 ≡ n * 16 = omega arith in
+      rw (all, spots_flat n)
 
-  by_place : (is : List ℕ) → map (λ (p : Spot × PortUse). p.0) (filter (λ p. passes p.0 p.1) (map with_use is)) ≡ filter (λ s. passes s (use_of ports s)) (map spot_at is)
-  by_place [] = refl
-  by_place (i ∷ is) =
-      let at : use_of ports (spot_at i) ≡ get_or ports i Unused = ap (λ k. get_or ports k Unused) (index_spot i) in
-      let rest = by_place is in
-      grind (arith, at, rest)
+  module _ (uses : List PortUse) (are : uses ≡ take (n * 16) ports) (few : n ≤ 16) (all : length ports ≡ 256) where
+    long : length uses ≡ n * 16
+    long = ap length are ∙ length-take-le (n * 16) ports (omega arith)
 
-  module _ (enough : n * 16 ≤ length ports) where
-    listed_by_place : listed ≡ map with_use (range_with_len 0 (n * 16))
-    listed_by_place =
-        let first = take (n * 16) ports in
-        let long : length first ≡ n * 16 = length-take-le (n * 16) ports enough in
-        let all : length (enumerate_from 0 first) ≡ n * 16 = length-enumerate_from 0 first ∙ long in
-        fill_by_all with_use listed (n * 16) (spot_at 0, Unused) (length-map _ _ ∙ all)
-        (λ k h.
-        let none : ℕ × PortUse = (0, Unused) in
-        let here : get_or (enumerate_from 0 first) k none ≡ (0 + k, get_or first k Unused) = get_or-enumerate_from 0 first k none (rw long h) in
-        let at : get_or first k Unused ≡ get_or ports k Unused = get_or-take (n * 16) ports k Unused h in
-        get_or-map _ (enumerate_from 0 first) k none _ (rw all h) ∙ rw (here, at, zero-add k))
+    pub from_next : (i : ℕ) (b : Bool) → i < length uses → b ≡ passes (spot_at i) (get_or uses i Unused) → from i ≡ cond b (spot_at i ∷ from (i + 1)) (from (i + 1))
+    from_next i b h e =
+        let here : i < n * 16 = omega (arith, long) in
+        let more : n * 16 - i ≡ suc (n * 16 - (i + 1)) = omega arith in
+        let place : use_of ports (spot_at i) ≡ get_or ports i Unused = ap (λ k. get_or ports k Unused) (index_spot i) in
+        let at : get_or uses i Unused ≡ get_or ports i Unused = ap (λ us. get_or us i Unused) are ∙ get_or-take (n * 16) ports i Unused here in
+        ap (kept i) more ∙ ap (λ t. cond t (spot_at i ∷ from (i + 1)) (from (i + 1))) (ap (passes (spot_at i)) (place ∙ sym at) ∙ sym e)
 
-    pub map-kept : map (λ (p : Spot × PortUse). p.0) kept ≡ ports_that passes n ports
-    map-kept = rw (listed_by_place, spots_flat n) (by_place (range_with_len 0 (n * 16)))
-
-    pub length-kept : length kept ≡ length (ports_that passes n ports)
-    length-kept = sym (length-map _ _) ∙ ap length map-kept
+    pub from_last : (i : ℕ) → length uses ≤ i → from i ≡ []
+    from_last i h =
+        let none : n * 16 - i ≡ 0 = omega (arith, long) in
+        ap (kept i) none

@@ -39,18 +39,19 @@ impl Topology {
         &self.ports[..usize::from(self.switches) * 16]
     }
 
-    // How many ports pass a test.
+    // How many ports pass a test. A loop, since the compiler makes faster code of it than of a chain through `filter`.
     fn count<F: Fn(Spot, PortUse) -> bool>(&self, test: F) -> usize
         requires { F.IsAlwaysCallable test }
         ensures value { (passes : Spot → PortUse → Bool) → AnswersAs (F.post test) passes → result ≡ length (ports_that passes self.now.switches self.now.ports) }
         ensures bound { result ≤ 256 }
     {
-        self.uses()
-            .iter()
-            .enumerate()
-            .map(|(index, port_use)| (spot_at(index), *port_use))
-            .filter(|(at, port_use)| test(*at, *port_use))
-            .count()
+        let mut count = 0;
+        for (index, port_use) in self.uses().iter().enumerate() {
+            if test(spot_at(index), *port_use) {
+                count += 1;
+            }
+        }
+        count
     }
 
     pub fn edge_count(&self) -> usize
@@ -66,18 +67,22 @@ impl Topology {
         self.count(is_first_end)
     }
 
-    // The edge port at a place of their order by switch and port, counted from 0. The chain begins as that of `count` does,
-    // since no function can hand out a chain with a closure in it.
+    // The edge port at a place of their order by switch and port, counted from 0. A loop for the same reason, and one of its
+    // own, since it stops at the place.
     pub fn edge_port(&self, place: usize) -> Option<Spot>
         ensures value { result ≡ slice_get (edge_ports_of self.now.switches self.now.ports) place }
         ensures inside { IfSome result (λ s. within self.now.switches s ≡ true) }
     {
-        self.uses()
-            .iter()
-            .enumerate()
-            .map(|(index, port_use)| (spot_at(index), *port_use))
-            .filter(|(at, port_use)| is_edge(*at, *port_use))
-            .map(|(at, _)| at)
-            .nth(place)
+        let mut left = place;
+        for (index, port_use) in self.uses().iter().enumerate() {
+            let at = spot_at(index);
+            if is_edge(at, *port_use) {
+                if left == 0 {
+                    return Some(at);
+                }
+                left -= 1;
+            }
+        }
+        None
     }
 }

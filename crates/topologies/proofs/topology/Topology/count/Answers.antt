@@ -1,22 +1,38 @@
-use Rattle.std.proofs.Common.{◌≡◌, ◌*◌, length, take, arith, rules, tests}
-use Rattle.std.proofs.lemmas.Iterator.{YieldsList-from_slice, YieldsList-from_map}
-use Rattle.std.proofs.lemmas.Iterator.Consumers.{count_from_yields_List, YieldsList-from_filter, YieldsList-from_enumerate, YieldsList-at}
-use Rattle.topologies.specs.Ports.{spot_at, ports_that}
-use Rattle.topologies.proofs.Counts.{kept, length-kept}
+use Rattle.std.proofs.Common.{◌≡◌, length, get_or, arith, rules, ap, ◌∙◌, zero-add}
+use Rattle.topologies.specs.declared.spot.PortUse.TheVariants.{Unused}
+use Rattle.topologies.specs.Ports.{spot_at}
+use Rattle.topologies.proofs.Counts.{from_first, from_next, from_last}
 use Rattle.topologies.proofs.topology.Topology.count.Goals as goal
+use Rattle.topologies.proofs.topology.Topology.count.Goals.{then-test, else-test}
+
+pub loop-index-init : goal.loop-index-init
+loop-index-init g c =
+    let t = c.args.self.now in
+    record {
+      bound = omega arith;
+      value = λ passes answers. zero-add _ ∙ ap length (from_first passes t.switches t.ports);
+    }
+
+pub loop-index-preserved : goal.loop-index-preserved
+loop-index-preserved g c =
+    let t = c.args.self.now in
+    let uses = c.uses-port_use-items in
+    let i = c.loop-index.index in
+    record {
+      bound = search rules;
+      value = λ passes answers.
+          let turn : c.test.result ≡ passes (spot_at i) (get_or uses.result.now i Unused) = rw (← c.spot_at.ensures) (answers _ _ _ c.test.ensures) in
+          let next = from_next passes t.switches t.ports uses.result.now uses.ensures t.few.1 (search rules) i c.test.result c.loop-index-test.true turn in
+          let before = c.loop-index.invariant.value passes answers in
+          elim c.if-test.branch [
+            | then-test w ↦ grind (arith, next, before, w.count-is, w.if-test)
+            | else-test w ↦ grind (arith, next, before, w.count-is, w.if-test)
+          ];
+    }
 
 pub returns-clause-value : goal.returns-clause-value
 returns-clause-value g c passes answers =
     let t = c.args.self.now in
-    let few = t.few in
-    let long : length t.ports ≡ 256 = search rules in
-    let counted : c.count.result ≡ length (kept passes t.switches t.ports) =
-    count_from_yields_List c.filter.result _ c.count.ensures.ran
-    (YieldsList-from_filter _ (λ p. passes p.0 p.1)
-    (YieldsList-at c.filter.ensures.source
-    (YieldsList-from_map _ (λ p. (spot_at p.0, p.1))
-    (YieldsList-at c.map.ensures.source (YieldsList-from_enumerate (YieldsList-at c.enumerate.ensures.source (YieldsList-from_slice (take (t.switches * 16) t.ports) (cc))) (cc)))
-    c.map.ensures.closure (λ x r q k. search (rules, tests))))
-    c.filter.ensures.closure (λ x r q k. search (rules, tests))) in
-    let all : length (kept passes t.switches t.ports) ≡ length (ports_that passes t.switches t.ports) = length-kept passes t.switches t.ports (omega arith) in
-    search rules
+    let uses = c.uses-port_use-items in
+    let none = ap length (from_last passes t.switches t.ports uses.result.now uses.ensures t.few.1 (search rules) c.loop-index.index c.loop-index-test.false) in
+    omega (arith, none, c.loop-index.invariant.value passes answers)

@@ -1,26 +1,44 @@
-use Rattle.std.proofs.Common.{◌≡◌, ◌*◌, length, map, take, arith, rules, tests, sym, ◌∙◌}
-use Rattle.std.proofs.lemmas.Iterator.{YieldsList-from_slice, YieldsList-from_map}
-use Rattle.std.proofs.lemmas.Iterator.Adapters.{option_map_id}
-use Rattle.std.proofs.lemmas.Iterator.Consumers.{nth_from_yields_List, YieldsList-from_filter, YieldsList-from_enumerate, YieldsList-at}
-use Rattle.topologies.specs.Ports.{spot_at, is_edge, edge_ports_of}
-use Rattle.topologies.proofs.Counts.{kept, map-kept}
+use Rattle.std.proofs.Common.{◌≡◌, suc, ◌-◌, List, get_or, arith, rules, ap}
+use Rattle.std.specs.List.{slice_get}
+use Rattle.topologies.specs.declared.spot.PortUse.TheVariants.{Unused}
+use Rattle.topologies.specs.declared.spot.Spot.{Spot}
+use Rattle.topologies.specs.Ports.{spot_at, is_edge}
+use Rattle.topologies.proofs.Counts.{from_first, from_next, from_last}
 use Rattle.topologies.proofs.topology.Topology.edge_port.Goals as goal
+use Rattle.topologies.proofs.topology.Topology.edge_port.Goals.{then-is_edge+else-left-eq0, else-is_edge}
+
+pub loop-index-init : goal.loop-index-init
+loop-index-init c =
+    let t = c.args.self.now in
+    ap (λ (xs : List Spot). slice_get xs c.args.place) (from_first is_edge t.switches t.ports)
+
+pub returns-then-left-eq0-clause-value : goal.returns-then-left-eq0-clause-value
+returns-then-left-eq0-clause-value c =
+    let t = c.args.self.now in
+    let uses = c.uses-port_use-items in
+    let i = c.loop-index.index in
+    let turn : c.is_edge.result ≡ is_edge (spot_at i) (get_or uses.result.now i Unused) = rw (← c.spot_at-at.ensures) c.is_edge.ensures in
+    let next = from_next is_edge t.switches t.ports uses.result.now uses.ensures t.few.1 (search rules) i c.is_edge.result c.loop-index-test.true turn in
+    grind (arith, next, c.loop-index.invariant, c.spot_at-at.ensures)
+
+pub loop-index-preserved : goal.loop-index-preserved
+loop-index-preserved c =
+    let t = c.args.self.now in
+    let uses = c.uses-port_use-items in
+    let i = c.loop-index.index in
+    let left = c.loop-index.left in
+    let turn : c.is_edge.result ≡ is_edge (spot_at i) (get_or uses.result.now i Unused) = rw (← c.spot_at-at.ensures) c.is_edge.ensures in
+    let next = from_next is_edge t.switches t.ports uses.result.now uses.ensures t.few.1 (search rules) i c.is_edge.result c.loop-index-test.true turn in
+    elim c.if-is_edge.branch [
+      | then-is_edge+else-left-eq0 w ↦
+          let more : left ≡ suc (left - 1) = omega (arith, w.if-left-eq0.false) in
+          grind (arith, next, more, c.loop-index.invariant, w.left-is, w.if-is_edge)
+      | else-is_edge w ↦ grind (arith, next, c.loop-index.invariant, w.left-is, w.if-is_edge)
+    ]
 
 pub returns-clause-value : goal.returns-clause-value
 returns-clause-value c =
     let t = c.args.self.now in
-    let few = t.few in
-    let long : length t.ports ≡ 256 = search rules in
-    let found =
-    sym (option_map_id c.nth.result) ∙ nth_from_yields_List c.nth.result _ _ c.nth.ensures.ran
-    (YieldsList-from_map _ (λ p. p.0)
-    (YieldsList-at c.map-2.ensures.source
-    (YieldsList-from_filter _ (λ p. is_edge p.0 p.1)
-    (YieldsList-at c.filter.ensures.source
-    (YieldsList-from_map _ (λ p. (spot_at p.0, p.1))
-    (YieldsList-at c.map.ensures.source (YieldsList-from_enumerate (YieldsList-at c.enumerate.ensures.source (YieldsList-from_slice (take (t.switches * 16) t.ports) (cc))) (cc)))
-    c.map.ensures.closure (λ x r q k. search (rules, tests))))
-    c.filter.ensures.closure (λ x r q k. search (rules, tests))))
-    c.map-2.ensures.closure (λ x r q k. search (rules, tests))) in
-    let all : map (λ p. p.0) (kept is_edge t.switches t.ports) ≡ edge_ports_of t.switches t.ports = map-kept is_edge t.switches t.ports (omega arith) in
-    search rules
+    let uses = c.uses-port_use-items in
+    let none = from_last is_edge t.switches t.ports uses.result.now uses.ensures t.few.1 (search rules) c.loop-index.index c.loop-index-test.false in
+    grind (arith, none, c.loop-index.invariant)
