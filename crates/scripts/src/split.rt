@@ -11,7 +11,8 @@ pub(crate) fn split_once(text: &[u8], mark: u8) -> Option<(&[u8], &[u8])>
     Some((&text[..at], &text[at + 1..]))
 }
 
-// Where the first mark stands.
+// Where the first mark stands. Not inlined, since the compiler then makes a shorter loop of it.
+#[inline(never)]
 fn place(text: &[u8], mark: u8) -> Option<usize>
     ensures { result ≡ position (λ c. c == mark) text.now }
 {
